@@ -26,7 +26,7 @@ LAYERS = (
     ("c_dumper", "c_dumper: ordering and emission"),
     ("session", "session: the record, and the calls by value"),
     ("btfdump", "btfdump: the library for C, and the programs"),
-    ("spec", "spec: definitions to be believed, no function"),
+    ("spec", "spec: definitions to be believed"),
     ("proof", "proof, claims: theorems, no function"),
 )
 CODE = ("base", "btf", "c_dumper", "session", "btfdump")
@@ -75,6 +75,9 @@ class Source:
         self.bodies = {}
         for m in re.finditer(r'^(?:pub(?:\(crate\))? )?(?:extern "C" )?fn (\w+).*?^\{\n(.*?)^\}', text, re.M | re.S):
             self.bodies[m.group(1)] = m.group(2)
+        for m in re.finditer(r"^impl(?:<[^>]*>)? (?:[\w<>']+ for )?(\w+)[^{]*\{\n(.*?)^\}", text, re.M | re.S):
+            for f in re.finditer(r"^    (?:pub(?:\(crate\))? )?fn (\w+).*?^    \{\n(.*?)^    \}", m.group(2), re.M | re.S):
+                self.bodies[f"{m.group(1)}::{f.group(1)}"] = f.group(2)
 
 
 def sources():
@@ -103,8 +106,42 @@ def resolve(files, source, path):
     return resolve(files, target, target.uses[name]) if name in target.uses else None
 
 
+# Methods of std that types of the repository have too: told by a receiver that is a constant.
+OF_STD = ("get", "put", "len", "min", "max", "hash", "push", "from")
+
+
+def methods_of(files):
+    """Where each method stands, by its name alone and by its type and name."""
+    places = {}
+    for f in files.values():
+        for n in f.bodies:
+            if "::" in n:
+                places.setdefault(n, []).append((f.crate, f.module, n))
+                places.setdefault(n.split("::")[1], []).append((f.crate, f.module, n))
+    return places
+
+
+def calls(files, methods, source, body):
+    """The functions and methods that a body calls, as they stand in it."""
+    def method(name):
+        near = sorted(methods.get(name, []), key=lambda f: (f[:2] != (source.crate, source.module), f[0] != source.crate))
+        return near[:1]
+
+    found = []
+    pattern = r"(?<![\w.])([a-z_]\w*(?:::\w+)*)(?:::<[^>]*>)?\s*\(|\b([A-Z]\w*::\w+)\s*\(|([\w)\]]+)\s*\.(\w+)\("
+    for m in re.finditer(pattern, body):
+        if m.group(1):
+            found.append(resolve(files, source, m.group(1)))
+        elif m.group(2):
+            found += method(m.group(2).removeprefix("Self::"))
+        elif m.group(4) not in OF_STD or re.fullmatch(r"[A-Z][A-Z_]+", m.group(3)):
+            found += method(m.group(4))
+    return [f for f in found if f]
+
+
 def walk(files):
     """Functions in the order in which the walk first comes to them."""
+    methods = methods_of(files)
     start = [(f.crate, f.module, n) for n in ROOTS for f in files.values() if n in f.bodies]
     if len(start) != len(ROOTS):
         sys.exit("architecture.py: no function " + " or ".join(ROOTS))
@@ -115,9 +152,7 @@ def walk(files):
             continue
         seen[place] = None
         source = files[place[:2]]
-        called = re.findall(r"(?<![\w.])([a-z_][\w]*(?:::\w+)*)\s*\(", source.bodies[place[2]])
-        found = [resolve(files, source, c) for c in called]
-        todo += [f for f in reversed(found) if f]
+        todo += reversed(calls(files, methods, source, source.bodies[place[2]]))
     return list(seen)
 
 

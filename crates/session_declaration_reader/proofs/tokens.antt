@@ -2,3 +2,4 @@
 pub mod Cases
 pub mod Bytes
 pub mod Places
+pub mod Signs

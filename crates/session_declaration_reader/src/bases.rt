@@ -2,21 +2,21 @@
 mod items;
 
 ghost use Rattle.std.specs.Prelude.{◌≡◌, true, false};
-ghost use Rattle.session_declaration_reader.specs.bases.Bases.{ends_name, bracketed, no_tags, is_base, word_run};
+ghost use Rattle.session_declaration_reader.specs.bases.Bases.{ends_name, bracketed, no_tags, is_base, word_run, void_before};
 ghost use Rattle.session_declaration_reader.specs.tokens.Looking.{tokens_at};
-ghost use Rattle.session_declaration_reader.specs.bases.Looking.{qual_sign, word_signed, void_signed, BaseWord, Third, QualsAt};
+ghost use Rattle.session_declaration_reader.specs.bases.Looking.{BaseWord, Third, QualsAt};
 ghost use Rattle.session_declaration_reader.specs.bases.Looking.{AfterWords, BaseAt};
 
 pub use crate::bases::items::{Entry, Spot, put_base, put_entry, put_quals};
-use crate::sign;
+use crate::token_kind::{Qualifier, TokenKind};
 use crate::tokens::{Tok, token};
 
-// At most three qualifiers, by their signs, 0 where there is none; and where they end.
+// At most three qualifiers, and where they end.
 #[derive(Clone, Copy)]
 pub struct Quals {
-    pub a: u32,
-    pub b: u32,
-    pub c: u32,
+    pub a: Option<Qualifier>,
+    pub b: Option<Qualifier>,
+    pub c: Option<Qualifier>,
     pub end: usize,
 }
 
@@ -28,21 +28,8 @@ pub struct Base {
     pub end: usize,
 }
 
-pub fn is_qualifier(sign: u32) -> bool
-    ensures { result ≡ qual_sign sign }
-{
-    matches!(sign, sign::CONST..=sign::RESTRICT)
-}
-
-pub fn is_word(sign: u32) -> bool
-    ensures { result ≡ word_signed sign }
-{
-    let is_below = sign < sign::TAG;
-    !is_below && sign <= sign::WORD
-}
-
 // A third qualifier, which ends at `at`, behind two that differ.
-fn three_quals(text: &[u8], a: u32, b: u32, c: u32, at: usize) -> Option<Quals>
+fn three_quals(text: &[u8], a: Qualifier, b: Qualifier, c: Qualifier, at: usize) -> Option<Quals>
     ensures { Third text.now a b c at result }
 {
     if a == c {
@@ -52,10 +39,15 @@ fn three_quals(text: &[u8], a: u32, b: u32, c: u32, at: usize) -> Option<Quals>
         return None;
     }
     let t = token(text, at);
-    if is_qualifier(t.sign) {
+    if let TokenKind::Qualifier(_) = t.kind {
         return None;
     }
-    Some(Quals { a, b, c, end: at })
+    Some(Quals {
+        a: Some(a),
+        b: Some(b),
+        c: Some(c),
+        end: at,
+    })
 }
 
 // None where a qualifier stands twice.
@@ -63,36 +55,36 @@ pub fn quals_at(text: &[u8], at: usize) -> Option<Quals>
     ensures { QualsAt text.now at result }
 {
     let t = token(text, at);
-    if !is_qualifier(t.sign) {
+    let TokenKind::Qualifier(a) = t.kind else {
         return Some(Quals {
-            a: 0,
-            b: 0,
-            c: 0,
+            a: None,
+            b: None,
+            c: None,
             end: at,
         });
-    }
+    };
     let u = token(text, t.end);
-    if !is_qualifier(u.sign) {
+    let TokenKind::Qualifier(b) = u.kind else {
         return Some(Quals {
-            a: t.sign,
-            b: 0,
-            c: 0,
+            a: Some(a),
+            b: None,
+            c: None,
             end: t.end,
         });
-    }
-    if t.sign == u.sign {
+    };
+    if a == b {
         return None;
     }
     let v = token(text, u.end);
-    if !is_qualifier(v.sign) {
+    let TokenKind::Qualifier(c) = v.kind else {
         return Some(Quals {
-            a: t.sign,
-            b: u.sign,
-            c: 0,
+            a: Some(a),
+            b: Some(b),
+            c: None,
             end: u.end,
         });
-    }
-    three_quals(text, t.sign, u.sign, v.sign, v.end)
+    };
+    three_quals(text, a, b, c, v.end)
 }
 
 // Whether the word before `at` is the declared name.
@@ -100,17 +92,17 @@ fn ends_name(text: &[u8], at: usize) -> bool
     ensures { result ≡ ends_name (tokens_at text.now at) }
 {
     let t = token(text, at);
-    if is_word(t.sign) {
+    if t.kind.is_word() {
         return false;
     }
-    if t.sign == sign::STAR {
+    if t.kind.is_mark(b'*') {
         return false;
     }
-    if t.sign != sign::OPEN {
+    if !t.kind.is_mark(b'(') {
         return true;
     }
     let u = token(text, t.end);
-    u.sign != sign::STAR
+    !u.kind.is_mark(b'*')
 }
 
 // The word of the base that stands next; with a name wanted, the last word is the name.
@@ -118,7 +110,7 @@ fn base_word(text: &[u8], at: usize, named: bool) -> Option<Tok>
     ensures { BaseWord text.now at named result }
 {
     let t = token(text, at);
-    if !is_word(t.sign) {
+    if !t.kind.is_word() {
         return None;
     }
     if named {
@@ -146,7 +138,7 @@ fn no_tags(text: &[u8], at: usize, named: bool) -> bool
 {
     let mut i = at;
     while let Some(t) = base_word(text, i, named) {
-        if t.sign == sign::TAG {
+        if let TokenKind::Tag = t.kind {
             return false;
         }
         i = t.end;
@@ -160,9 +152,9 @@ fn is_base(text: &[u8], at: usize, named: bool) -> bool
     let Some(t) = base_word(text, at, named) else {
         return false;
     };
-    if t.sign != sign::TAG {
+    let TokenKind::Tag = t.kind else {
         return no_tags(text, t.end, named);
-    }
+    };
     let Some(u) = base_word(text, t.end, named) else {
         return false;
     };
@@ -186,16 +178,16 @@ pub fn base_at(text: &[u8], at: usize, named: bool) -> Option<Base>
     })
 }
 
-// `void` by itself, before the mark of that sign.
-pub fn void_before(text: &[u8], at: usize, sign: u32) -> bool
-    ensures { result ≡ void_signed sign (tokens_at text.now at) }
+// `void` by itself, before that mark.
+pub fn void_before(text: &[u8], at: usize, mark: u8) -> bool
+    ensures { result ≡ void_before mark (tokens_at text.now at) }
 {
     let t = token(text, at);
-    if t.sign != sign::VOID {
+    let TokenKind::Void = t.kind else {
         return false;
-    }
+    };
     let u = token(text, t.end);
-    u.sign == sign
+    u.kind.is_mark(mark)
 }
 
 // Whether a declarator in parentheses stands next: it begins with a star.
@@ -203,9 +195,9 @@ pub fn is_bracketed(text: &[u8], at: usize) -> bool
     ensures { result ≡ bracketed (tokens_at text.now at) }
 {
     let t = token(text, at);
-    if t.sign != sign::OPEN {
+    if !t.kind.is_mark(b'(') {
         return false;
     }
     let u = token(text, t.end);
-    u.sign == sign::STAR
+    u.kind.is_mark(b'*')
 }

@@ -9,10 +9,9 @@ ghost use Rattle.session_declaration_reader.specs.grammar.Emission as emission;
 ghost use Rattle.session_declaration_reader.specs.grammar.Emission.{outcome, emits, proto_items, behind_items};
 
 use crate::bases::{
-    Base, Entry, Spot, base_at, is_bracketed, is_word, put_base, put_entry, put_quals, quals_at,
-    void_before,
+    Base, Entry, Spot, base_at, is_bracketed, put_base, put_entry, put_quals, quals_at, void_before,
 };
-use crate::sign;
+use crate::token_kind::TokenKind;
 use crate::tokens::token;
 
 // A star before a declarator; or one in parentheses, or the name, with what stands behind it.
@@ -32,7 +31,7 @@ pub fn declarator(
         return None;
     }
     let t = token(text, at);
-    if t.sign == sign::STAR {
+    if t.kind.is_mark(b'*') {
         return starred(text, t.end, named, left - 1, chain, n);
     }
     if is_bracketed(text, at) {
@@ -41,7 +40,7 @@ pub fn declarator(
     if !named {
         return suffixes(text, at, left - 1, chain, n);
     }
-    if !is_word(t.sign) {
+    if !t.kind.is_word() {
         return None;
     }
     suffixes(text, t.end, left - 1, chain, n)
@@ -84,7 +83,7 @@ fn in_brackets(
 {
     let r = declarator(text, at, named, left, chain, n)?;
     let t = token(text, r.at);
-    if t.sign != sign::CLOSE {
+    if !t.kind.is_mark(b')') {
         return None;
     }
     suffixes(text, t.end, left, chain, r.n)
@@ -100,10 +99,10 @@ fn suffixes(text: &[u8], at: usize, left: u32, chain: &mut [u64], n: u32) -> Opt
         return None;
     }
     let t = token(text, at);
-    if t.sign == sign::OPEN_BRACKET {
+    if t.kind.is_mark(b'[') {
         return counts(text, t.end, left - 1, chain, n);
     }
-    if t.sign == sign::OPEN {
+    if t.kind.is_mark(b'(') {
         return protos(text, t.end, left - 1, chain, n);
     }
     Some(Spot { at, n })
@@ -116,14 +115,14 @@ fn counts(text: &[u8], at: usize, left: u32, chain: &mut [u64], n: u32) -> Optio
         ≡ emits layer_items chain.old n (emission.counts left (tokens_at text.now at)) }
 {
     let t = token(text, at);
-    if t.sign != sign::COUNT {
+    let TokenKind::Count(count) = t.kind else {
         return None;
-    }
+    };
     let u = token(text, t.end);
-    if u.sign != sign::CLOSE_BRACKET {
+    if !u.kind.is_mark(b']') {
         return None;
     }
-    let m = put_entry(chain, n, Entry::Array(t.count));
+    let m = put_entry(chain, n, Entry::Array(count));
     suffixes(text, u.end, left, chain, m)
 }
 
@@ -147,13 +146,13 @@ fn params(text: &[u8], at: usize, left: u32, chain: &mut [u64], n: u32) -> Optio
         return None;
     }
     let t = token(text, at);
-    if t.sign == sign::CLOSE {
+    if t.kind.is_mark(b')') {
         return Some(Spot {
             at: t.end,
             n: put_entry(chain, n, Entry::Prototype(false)),
         });
     }
-    if void_before(text, at, sign::CLOSE) {
+    if void_before(text, at, b')') {
         let u = token(text, t.end);
         return Some(Spot {
             at: u.end,
@@ -173,10 +172,10 @@ fn param_list(text: &[u8], at: usize, left: u32, chain: &mut [u64], n: u32) -> O
     if left == 0 {
         return None;
     }
-    if void_before(text, at, sign::CLOSE) {
+    if void_before(text, at, b')') {
         return None;
     }
-    if void_before(text, at, sign::COMMA) {
+    if void_before(text, at, b',') {
         return None;
     }
     let b = base_at(text, at, false)?;
@@ -198,7 +197,7 @@ fn param_behind(
         ≡ emits (behind_items b) chain.old n (grammar.param_end left (tokens_at text.now at)) }
 {
     let t = token(text, at);
-    let m = put_base(chain, n, b, t.sign == sign::COMMA);
+    let m = put_base(chain, n, b, t.kind.is_mark(b','));
     param_end(text, at, left, chain, m)
 }
 
@@ -212,14 +211,14 @@ fn param_end(text: &[u8], at: usize, left: u32, chain: &mut [u64], n: u32) -> Op
         return None;
     }
     let t = token(text, at);
-    if t.sign != sign::COMMA {
-        if t.sign != sign::CLOSE {
+    if !t.kind.is_mark(b',') {
+        if !t.kind.is_mark(b')') {
             return None;
         }
         return Some(Spot { at: t.end, n });
     }
     let u = token(text, t.end);
-    if u.sign == sign::DOTS {
+    if u.kind.is_mark(b'.') {
         return dots_end(text, u.end, chain, n);
     }
     param_list(text, t.end, left - 1, chain, n)
@@ -231,7 +230,7 @@ fn dots_end(text: &[u8], at: usize, chain: &mut [u64], n: u32) -> Option<Spot>
         ≡ emits param_items chain.old n (emission.dots_end (tokens_at text.now at)) }
 {
     let t = token(text, at);
-    if t.sign != sign::CLOSE {
+    if !t.kind.is_mark(b')') {
         return None;
     }
     Some(Spot {

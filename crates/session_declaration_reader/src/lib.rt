@@ -4,5 +4,5 @@
 pub mod bases;
 pub mod grammar;
 pub mod reader;
-pub mod sign;
+pub mod token_kind;
 pub mod tokens;

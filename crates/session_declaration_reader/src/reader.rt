@@ -5,7 +5,7 @@ ghost use Rattle.session_declaration_reader.specs.reader.Encoding.{read_into};
 
 use crate::bases::{base_at, put_base};
 use crate::grammar::declarator;
-use crate::sign;
+use crate::token_kind::TokenKind;
 use crate::tokens::token;
 use base_bytes::limit;
 
@@ -35,9 +35,9 @@ pub fn read_declaration(text: &[u8], chain: &mut [u64]) -> u32
         return refuse(chain);
     };
     let t = token(text, r.at);
-    if t.sign != sign::END {
+    let TokenKind::End = t.kind else {
         return refuse(chain);
-    }
+    };
     let n = put_base(chain, r.n, b, false);
     let is_longer = limit::MOST_CALLS < n;
     if is_longer {

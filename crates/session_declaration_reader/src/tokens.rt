@@ -1,20 +1,17 @@
-// The tokens of a text, looked at from a place on. A token is told by its sign: 1 to 3 const, volatile and restrict; 4 struct,
-// union or enum; 5 void; 6 any other word; 7 a count; 16 more than the byte of a mark, 46 for `...` and 0 for what is no token;
-// and 0 where the text ends.
+// The tokens of a text, looked at from a place on.
 ghost use Rattle.std.specs.Prelude.{◌≡◌, true, ◌+◌, ◌-◌, ◌<◌, length, get_or};
 ghost use Rattle.session_declaration_reader.specs.tokens.Tokens.{is_digit, is_letter, is_word_byte, in_run};
 ghost use Rattle.session_declaration_reader.specs.tokens.Tokens as defs;
-ghost use Rattle.session_declaration_reader.specs.tokens.Looking.{count_value, kind_sign, word_sign, run_sign, run_count, Skipped, Ran};
+ghost use Rattle.session_declaration_reader.specs.tokens.Looking.{count_value, base_kind, word_kind, run_kind, Skipped, Ran};
 ghost use Rattle.session_declaration_reader.specs.tokens.Looking.{Looked};
 
-use crate::sign;
+use crate::token_kind::{Qualifier, TokenKind};
 use base_bytes::limit;
 use base_keywords::table::{Word, is_word};
 
 #[derive(Clone, Copy)]
 pub struct Tok {
-    pub sign: u32,
-    pub count: u32,
+    pub kind: TokenKind,
     pub start: usize,
     pub end: usize,
 }
@@ -80,63 +77,53 @@ fn count_value(run: &[u8]) -> Option<u32>
     Some(v as u32)
 }
 
-// The sign of an identifier that is no qualifier.
-fn base_sign(run: &[u8]) -> u32
-    ensures { result ≡ kind_sign run.now }
+// An identifier that is no qualifier.
+fn base_kind(run: &[u8]) -> TokenKind
+    ensures { result ≡ base_kind run.now }
 {
     if is_word(run, Word::Struct) {
-        return sign::TAG;
+        return TokenKind::Tag;
     }
     if is_word(run, Word::Union) {
-        return sign::TAG;
+        return TokenKind::Tag;
     }
     if is_word(run, Word::Enum) {
-        return sign::TAG;
+        return TokenKind::Tag;
     }
     if is_word(run, Word::Void) {
-        return sign::VOID;
+        return TokenKind::Void;
     }
-    sign::WORD
+    TokenKind::Word
 }
 
-fn word_sign(run: &[u8]) -> u32
-    ensures { result ≡ word_sign run.now }
+fn word_kind(run: &[u8]) -> TokenKind
+    ensures { result ≡ word_kind run.now }
 {
     if is_word(run, Word::Const) {
-        return sign::CONST;
+        return TokenKind::Qualifier(Qualifier::Const);
     }
     if is_word(run, Word::Volatile) {
-        return sign::VOLATILE;
+        return TokenKind::Qualifier(Qualifier::Volatile);
     }
     if is_word(run, Word::Restrict) {
-        return sign::RESTRICT;
+        return TokenKind::Qualifier(Qualifier::Restrict);
     }
-    base_sign(run)
+    base_kind(run)
 }
 
-fn run_sign(run: &[u8]) -> u32
-    ensures { result ≡ run_sign run.now }
+fn run_kind(run: &[u8]) -> TokenKind
+    ensures { result ≡ run_kind run.now }
 {
     if identifier(run) {
-        return word_sign(run);
+        return word_kind(run);
     }
-    if count_value(run).is_some() {
-        return sign::COUNT;
+    if let Some(count) = count_value(run) {
+        return TokenKind::Count(count);
     }
     if is_word(run, Word::Dots) {
-        return sign::DOTS;
+        return TokenKind::Mark(b'.');
     }
-    sign::MARK
-}
-
-// The value of a count, and 0 of any other run.
-fn run_count(run: &[u8]) -> u32
-    ensures { result ≡ run_count run.now }
-{
-    if identifier(run) {
-        return 0;
-    }
-    count_value(run).unwrap_or(0)
+    TokenKind::Mark(0)
 }
 
 // The first place from `at` on where no space stands.
@@ -171,26 +158,23 @@ pub fn token(text: &[u8], at: usize) -> Tok
     let start = skip(text, at);
     if text.len() <= start {
         return Tok {
-            sign: sign::END,
-            count: 0,
-            start: start,
+            kind: TokenKind::End,
+            start,
             end: start,
         };
     }
     let b = text[start];
     if !in_run(b) {
         return Tok {
-            sign: sign::MARK + (b as u32),
-            count: 0,
-            start: start,
+            kind: TokenKind::Mark(b),
+            start,
             end: start + 1,
         };
     }
     let end = run_end(text, start);
     Tok {
-        sign: run_sign(&text[start..end]),
-        count: run_count(&text[start..end]),
-        start: start,
-        end: end,
+        kind: run_kind(&text[start..end]),
+        start,
+        end,
     }
 }

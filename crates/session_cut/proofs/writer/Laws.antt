@@ -35,10 +35,6 @@ use Rattle.session_cut_marks.proofs.interned.Found.{found_place, first_is, new_p
 use Rattle.session_cut.specs.writer.Bytes.{word_bytes, head_bytes, type_size, types_size, new_word, record_bytes, type_bytes, types_bytes, all_bytes, sought, Wrote, wrote_of, fitting_written, kept_written}
 use Rattle.session_cut.proofs.writer.Sizes.{head_length, types_length}
 
--- a length fits a word
-pub few_fits : (n : ℕ) → n ≤ 16777216 → Fits w32 n
-few_fits n l = omega (arith, l)
-
 none_some : {p : ℕ} → None ≡ Some p → ⊥
 none_some h = cc
 

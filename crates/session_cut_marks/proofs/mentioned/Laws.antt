@@ -18,9 +18,6 @@ use Rattle.session_cut_marks.specs.roles.Words.{role, words_in, word_of}
 use Rattle.session_cut_marks.proofs.roles.Laws.{get_past}
 use Rattle.session_cut_marks.specs.mentioned.Names.{is_name, or_name, named_to, first_from, mentions, or_mentions, mentioned_to, is_new}
 
-pub peek_past : (l : List ℕ) (i : ℕ) → length l ≤ i → 0 ≡ get_or l i 0
-peek_past l i h = sym (get_past l i 0 h)
-
 pub flip_true : (q : Bool) → not q ≡ true → q ≡ false
 flip_true true h = absurd (true≢false (sym h))
 flip_true false h = refl

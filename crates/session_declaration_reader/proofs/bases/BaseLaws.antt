@@ -11,12 +11,20 @@ use lib.ListN.{length}
 use lib.Dec.{eqb}
 use Rattle.spec_c_dumper.specs.rules.Types.{Qualifier, volatile, const, restrict}
 use Rattle.session_declaration_reader.specs.tokens.Tokens.{Kind, tag_word, void_word, other_word, Token, qual, word, number, mark, rest}
-use Rattle.session_declaration_reader.specs.bases.Bases.{Spelt, spelt, is_qualifier_among, distinct, begins, begins_word, bracketed, qual_run, after_quals, ends_name, word_run, after_words, is_tag, no_tags, single, is_base, words_of, same_qualifier}
-use Rattle.session_declaration_reader.specs.tokens.Looking.{Span, tokens_at, sign_of, span_of, Looked}
-use Rattle.session_declaration_reader.specs.bases.Items.{qual_code, first_from, last_to}
-use Rattle.session_declaration_reader.specs.bases.Looking.{qual_sign, word_signed, void_signed, qual_of, QualsOf, QualsAt, only_three, Third, is_base_word, BaseWord, AfterWords, begins_base, BaseAt}
+use Rattle.session_declaration_reader.specs.bases.Bases.{Spelt, spelt, no_quals, void_before, is_qualifier_among, distinct, begins, begins_word, bracketed, qual_run, after_quals, ends_name, word_run, after_words, is_tag, no_tags, single, is_base, words_of, same_qualifier}
+use Rattle.session_declaration_reader.specs.tokens.Looking.{Span, tokens_at, kind_of_qualifier, next_kind, qualifier_code, code_of, sign_of, span_of, Looked}
+use Rattle.session_declaration_reader.specs.bases.Items.{first_from, last_to}
+use Rattle.session_declaration_reader.specs.bases.Looking.{word_signed, qualifier, QualsOf, QualsAt, only_three, Third, is_base_word, BaseWord, AfterWords, begins_base, BaseAt}
 use Rattle.session_declaration_reader.specs.declared.tokens.Tok.{Tok}
 use Rattle.session_declaration_reader.specs.declared.bases.Quals.{Quals}
+use Rattle.session_declaration_reader.specs.declared.token_kind.Qualifier as declared
+use Rattle.session_declaration_reader.specs.declared.token_kind.Qualifier.TheVariants.{Const, Volatile, Restrict}
+use Rattle.session_declaration_reader.specs.declared.token_kind.TokenKind.{TokenKind}
+use Rattle.session_declaration_reader.specs.declared.token_kind.TokenKind.TheVariants as kinds
+use Rattle.session_declaration_reader.specs.declared.token_kind.TokenKind.TheVariants.{End, Tag, Void}
+use Rattle.session_declaration_reader.specs.contracts.token_kind.Qualifier.{the_type}
+use denote.Enum.Bare.{sameb}
+use Rattle.session_declaration_reader.proofs.tokens.Signs.{signed, tag_not}
 use Rattle.session_declaration_reader.proofs.tokens.Cases.{passed, failed}
 
 abbrev Ts : Type 0
@@ -31,7 +39,7 @@ both_true false b e = absurd (false_true e)
 
 -- signs
 pub begins_sign : (m : ℕ) (ts : Ts) → begins m ts ≡ eqb (sign_of ts) (16 + m)
-unfolding begins sign_of
+unfolding begins next_kind
 begins_sign m [] = sym (ne_eqb 0 (16 + m) (λ e. omega arith))
 begins_sign m (qual const ∷ ts) = sym (ne_eqb 1 (16 + m) (λ e. omega arith))
 begins_sign m (qual volatile ∷ ts) = sym (ne_eqb 2 (16 + m) (λ e. omega arith))
@@ -47,7 +55,7 @@ begins_sign m (mark b ∷ ts) = go (eqb b m) refl
     go false e = e ∙ sym (ne_eqb (16 + b) (16 + m) (λ q. eqb-false b m e (omega arith)))
 
 pub word_sign : (ts : Ts) → begins_word ts ≡ word_signed (sign_of ts)
-unfolding begins_word sign_of
+unfolding begins_word next_kind
 word_sign [] = refl
 word_sign (qual const ∷ ts) = refl
 word_sign (qual volatile ∷ ts) = refl
@@ -107,7 +115,7 @@ pub record Step (n : Bool) (ts : Ts) : Type 0 where
   pub some : sign_of ts ≡ 0 → ⊥
 
 pub step : (n : Bool) (ts : Ts) → is_base_word n ts ≡ true → Step n ts
-unfolding is_base_word begins_word rest sign_of span_of word_run after_words
+unfolding is_base_word begins_word rest next_kind span_of word_run after_words
 step n [] e = absurd (false_true e)
 step n (qual q ∷ ts) e = absurd (false_true e)
 step n (number m ∷ ts) e = absurd (false_true e)
@@ -183,8 +191,8 @@ module _ (s : List ℕ) (n : Bool) (i : ℕ) (r : Bool) (e : r ≡ is_base_word 
     st : Step n (tokens_at s i)
     st = step n (tokens_at s i) (sym e ∙ h)
 
-    some_sign : t.sign ≡ 0 → ⊥
-    some_sign q = st.some (sym l.sign_is ∙ q)
+    some_sign : t.kind ≡ End → ⊥
+    some_sign q = st.some (sym (signed l) ∙ ap code_of q)
 
     pub word_forward : i < t.end
     word_forward = l.forward some_sign
@@ -207,42 +215,42 @@ module _ (s : List ℕ) (n : Bool) (i : ℕ) (r : Bool) (e : r ≡ is_base_word 
     after_turn at inv =
         (ap (after_words n) l.rest_is ∙ sym st.after_is ∙ inv.0, sym (ap (last_or i) words_are) ∙ inv.1)
 
-    pub tags_turn : (x : Bool) → (t.sign ≡ 4 → ⊥) → no_tags (word_run n (tokens_at s i)) ≡ x → no_tags (word_run n (tokens_at s t.end)) ≡ x
+    pub tags_turn : (x : Bool) → (t.kind ≡ Tag → ⊥) → no_tags (word_run n (tokens_at s i)) ≡ x → no_tags (word_run n (tokens_at s t.end)) ≡ x
     unfolding no_tags
     tags_turn x f inv =
-        let g : is_tag (spelt st.kind st.at) ≡ false = st.tag_is ∙ ne_eqb (sign_of (tokens_at s i)) 4 (λ q. f (l.sign_is ∙ q)) in
+        let g : is_tag (spelt st.kind st.at) ≡ false = st.tag_is ∙ ne_eqb (sign_of (tokens_at s i)) 4 (λ q. tag_not t.kind f (signed l ∙ q)) in
         ap (λ (y : Ts). no_tags (word_run n y)) l.rest_is
         ∙ sym (ap no_tags st.run_is ∙ ap (λ (b : Bool). not b && no_tags (word_run n (rest (tokens_at s i)))) g)
         ∙ inv
 
-    pub tags_found : (x : Bool) → t.sign ≡ 4 → no_tags (word_run n (tokens_at s i)) ≡ x → false ≡ x
+    pub tags_found : (x : Bool) → t.kind ≡ Tag → no_tags (word_run n (tokens_at s i)) ≡ x → false ≡ x
     unfolding no_tags
     tags_found x f inv =
-        let g : is_tag (spelt st.kind st.at) ≡ true = st.tag_is ∙ eq-eqb (sign_of (tokens_at s i)) 4 (sym l.sign_is ∙ f) in
+        let g : is_tag (spelt st.kind st.at) ≡ true = st.tag_is ∙ eq-eqb (sign_of (tokens_at s i)) 4 (sym (signed l) ∙ ap code_of f) in
         sym (ap no_tags st.run_is ∙ ap (λ (b : Bool). not b && no_tags (word_run n (rest (tokens_at s i)))) g) ∙ inv
 
     -- words other than a tag's keyword
-    pub base_words : (t.sign ≡ 4 → ⊥) → (b : Bool) → b ≡ no_tags (word_run n (tokens_at s t.end)) → b ≡ is_base (word_run n (tokens_at s i))
+    pub base_words : (t.kind ≡ Tag → ⊥) → (b : Bool) → b ≡ no_tags (word_run n (tokens_at s t.end)) → b ≡ is_base (word_run n (tokens_at s i))
     unfolding is_base
     base_words f b q =
-        let g : is_tag (spelt st.kind st.at) ≡ false = st.tag_is ∙ ne_eqb (sign_of (tokens_at s i)) 4 (λ z. f (l.sign_is ∙ z)) in
+        let g : is_tag (spelt st.kind st.at) ≡ false = st.tag_is ∙ ne_eqb (sign_of (tokens_at s i)) 4 (λ z. tag_not t.kind f (signed l ∙ z)) in
         q
         ∙ ap (λ (x : Ts). no_tags (word_run n x)) l.rest_is
         ∙ sym (ap is_base st.run_is ∙ failed (is_tag (spelt st.kind st.at)) (single (word_run n (rest (tokens_at s i)))) (no_tags (word_run n (rest (tokens_at s i)))) g)
 
-    tag_single : t.sign ≡ 4 → is_base (word_run n (tokens_at s i)) ≡ single (word_run n (tokens_at s t.end))
+    tag_single : t.kind ≡ Tag → is_base (word_run n (tokens_at s i)) ≡ single (word_run n (tokens_at s t.end))
     unfolding is_base
     tag_single f =
-        let g : is_tag (spelt st.kind st.at) ≡ true = st.tag_is ∙ eq-eqb (sign_of (tokens_at s i)) 4 (sym l.sign_is ∙ f) in
+        let g : is_tag (spelt st.kind st.at) ≡ true = st.tag_is ∙ eq-eqb (sign_of (tokens_at s i)) 4 (sym (signed l) ∙ ap code_of f) in
         ap is_base st.run_is
         ∙ passed (is_tag (spelt st.kind st.at)) (single (word_run n (rest (tokens_at s i)))) (no_tags (word_run n (rest (tokens_at s i)))) g
         ∙ ap (λ (x : Ts). single (word_run n x)) (sym l.rest_is)
 
-    pub tag_alone : t.sign ≡ 4 → (b : Bool) → b ≡ is_base_word n (tokens_at s t.end) → b ≡ false → false ≡ is_base (word_run n (tokens_at s i))
+    pub tag_alone : t.kind ≡ Tag → (b : Bool) → b ≡ is_base_word n (tokens_at s t.end) → b ≡ false → false ≡ is_base (word_run n (tokens_at s i))
     unfolding single
     tag_alone f b q z = sym (tag_single f ∙ ap single (over n (tokens_at s t.end) (sym q ∙ z)).run_is)
 
-    pub tag_and_tag : t.sign ≡ 4 → (b : Bool) → b ≡ is_base_word n (tokens_at s t.end) → b ≡ true → (u : Tok) → Looked s t.end u
+    pub tag_and_tag : t.kind ≡ Tag → (b : Bool) → b ≡ is_base_word n (tokens_at s t.end) → b ≡ true → (u : Tok) → Looked s t.end u
         → (c : Bool) → c ≡ is_base_word n (tokens_at s u.end) → not c ≡ is_base (word_run n (tokens_at s i))
     unfolding single
     tag_and_tag f b q z u lu c k = go c k
@@ -290,69 +298,107 @@ module _ (s : List ℕ) (n : Bool) (i : ℕ) (r : Bool) (e : r ≡ is_base_word 
     base_over = sym (ap is_base ov.run_is)
 
 -- `void`
-module _ (ts : Ts) (g : ℕ) (e : g ≡ sign_of ts) (m : ℕ) where
-  pub void_not : (g ≡ 5 → ⊥) → false ≡ void_signed m ts
-  unfolding void_signed
-  void_not f = rw (ap (λ (x : ℕ). eqb x 5) (sym e) ∙ ne_eqb g 5 f)
+module _ (m : ℕ) where
+  pub void_not : (ts : Ts) (k : TokenKind) → k ≡ next_kind ts → (k ≡ Void → ⊥) → false ≡ void_before m ts
+  unfolding void_before next_kind
+  void_not [] k e n = refl
+  void_not (qual q ∷ ts) k e n = refl
+  void_not (word tag_word w ∷ ts) k e n = refl
+  void_not (word void_word w ∷ ts) k e n = absurd (n e)
+  void_not (word other_word w ∷ ts) k e n = refl
+  void_not (number x ∷ ts) k e n = refl
+  void_not (mark b ∷ ts) k e n = refl
 
-  pub void_next : g ≡ 5 → (us : Ts) → us ≡ rest ts → (k : ℕ) → k ≡ sign_of us → eqb k m ≡ void_signed m ts
-  unfolding void_signed
-  void_next f us u k q = rw (ap (λ (x : ℕ). eqb x 5) (sym e) ∙ eq-eqb g 5 f, sym (q ∙ ap sign_of u))
+  pub void_next : (ts : Ts) (k : TokenKind) → k ≡ next_kind ts → k ≡ Void → (us : Ts) → us ≡ rest ts → (g : ℕ) → g ≡ sign_of us → eqb g (16 + m) ≡ void_before m ts
+  unfolding void_before next_kind rest
+  void_next ts k e v us u g q =
+      ap (λ (x : ℕ). eqb x (16 + m)) (q ∙ ap sign_of u) ∙ sym (begins_sign m (rest ts)) ∙ go ts (ap code_of (sym e ∙ v))
+    where
+      go : (ts : Ts) → sign_of ts ≡ 5 → begins m (rest ts) ≡ void_before m ts
+      go [] h = absurd (omega arith)
+      go (qual const ∷ ts) h = absurd (omega arith)
+      go (qual volatile ∷ ts) h = absurd (omega arith)
+      go (qual restrict ∷ ts) h = absurd (omega arith)
+      go (word tag_word w ∷ ts) h = absurd (omega arith)
+      go (word void_word w ∷ ts) h = refl
+      go (word other_word w ∷ ts) h = absurd (omega arith)
+      go (number n ∷ ts) h = absurd (omega arith)
+      go (mark b ∷ ts) h = absurd (omega arith)
 
 -- qualifiers
-pub record QStep (ts : Ts) : Type 0 where
-  pub is : Qualifier
-  pub run_is : qual_run ts ≡ is ∷ qual_run (rest ts)
+pub record QStep (a : declared.Qualifier) (ts : Ts) : Type 0 where
+  pub run_is : qual_run ts ≡ qualifier a ∷ qual_run (rest ts)
   pub after_is : after_quals ts ≡ after_quals (rest ts)
-  pub sign_is : sign_of ts ≡ qual_code is
 
-high : (b : ℕ) → qual_sign (16 + b) ≡ false
-high b = rw (lt-ltb 0 (16 + b) (omega arith), le-ltb (16 + b) 4 (omega arith))
+back : (q : Qualifier) → qualifier (kind_of_qualifier q) ≡ q
+back const = refl
+back volatile = refl
+back restrict = refl
 
-qstep : (ts : Ts) → qual_sign (sign_of ts) ≡ true → QStep ts
-unfolding sign_of qual_run after_quals rest
-qstep [] e = absurd (false_true e)
-qstep (qual const ∷ ts) e = record { is = const; run_is = refl; after_is = refl; sign_is = refl }
-qstep (qual volatile ∷ ts) e = record { is = volatile; run_is = refl; after_is = refl; sign_is = refl }
-qstep (qual restrict ∷ ts) e = record { is = restrict; run_is = refl; after_is = refl; sign_is = refl }
-qstep (word tag_word w ∷ ts) e = absurd (false_true e)
-qstep (word void_word w ∷ ts) e = absurd (false_true e)
-qstep (word other_word w ∷ ts) e = absurd (false_true e)
-qstep (number n ∷ ts) e = absurd (false_true e)
-qstep (mark b ∷ ts) e = absurd (false_true (sym (high b) ∙ e))
+code_low : (a : declared.Qualifier) → qualifier_code a < 4
+code_low Const = omega arith
+code_low Volatile = omega arith
+code_low Restrict = omega arith
 
-qover : (ts : Ts) → qual_sign (sign_of ts) ≡ false → (qual_run ts ≡ []) × (after_quals ts ≡ ts)
-unfolding sign_of qual_run after_quals
-qover [] e = (refl, refl)
-qover (qual const ∷ ts) e = absurd (false_true (sym e))
-qover (qual volatile ∷ ts) e = absurd (false_true (sym e))
-qover (qual restrict ∷ ts) e = absurd (false_true (sym e))
-qover (word k w ∷ ts) e = (refl, refl)
-qover (number n ∷ ts) e = (refl, refl)
-qover (mark b ∷ ts) e = (refl, refl)
+code_some : (a : declared.Qualifier) → 0 < qualifier_code a
+code_some Const = omega arith
+code_some Volatile = omega arith
+code_some Restrict = omega arith
 
-qual_of_lem : (q : Qualifier) (qs : List Qualifier) → qual_of (qual_code q) qs ≡ q ∷ qs
-unfolding qual_of
-qual_of_lem const qs = refl
-qual_of_lem volatile qs = refl
-qual_of_lem restrict qs = refl
+qstep : (a : declared.Qualifier) (ts : Ts) → kinds.Qualifier a ≡ next_kind ts → QStep a ts
+unfolding next_kind qual_run after_quals rest
+qstep a [] e = absurd (let q : qualifier_code a ≡ 0 = ap code_of e in omega (arith, code_some a))
+qstep a (qual q ∷ ts) e =
+    let p : a ≡ kind_of_qualifier q = cc in
+    record { run_is = ap (λ x. x ∷ qual_run ts) (sym (ap qualifier p ∙ back q)); after_is = refl }
+qstep a (word tag_word w ∷ ts) e = absurd (let q : qualifier_code a ≡ 4 = ap code_of e in omega (arith, code_low a))
+qstep a (word void_word w ∷ ts) e = absurd (let q : qualifier_code a ≡ 5 = ap code_of e in omega (arith, code_low a))
+qstep a (word other_word w ∷ ts) e = absurd (let q : qualifier_code a ≡ 6 = ap code_of e in omega (arith, code_low a))
+qstep a (number n ∷ ts) e = absurd (let q : qualifier_code a ≡ 7 = ap code_of e in omega (arith, code_low a))
+qstep a (mark b ∷ ts) e = absurd (let q : qualifier_code a ≡ 16 + b = ap code_of e in omega (arith, code_low a))
 
-same_code : (p q : Qualifier) → same_qualifier p q ≡ eqb (qual_code p) (qual_code q)
-same_code const const = refl
-same_code const volatile = refl
-same_code const restrict = refl
-same_code volatile const = refl
-same_code volatile volatile = refl
-same_code volatile restrict = refl
-same_code restrict const = refl
-same_code restrict volatile = refl
-same_code restrict restrict = refl
+abbrev NoQual : TokenKind → Type 0
+NoQual k = (x : declared.Qualifier) → k ≡ kinds.Qualifier x → ⊥
+
+qover : (ts : Ts) (k : TokenKind) → k ≡ next_kind ts → NoQual k → (qual_run ts ≡ []) × (after_quals ts ≡ ts)
+unfolding next_kind qual_run after_quals
+qover [] k e n = (refl, refl)
+qover (qual q ∷ ts) k e n = absurd (n (kind_of_qualifier q) e)
+qover (word j w ∷ ts) k e n = (refl, refl)
+qover (number m ∷ ts) k e n = (refl, refl)
+qover (mark b ∷ ts) k e n = (refl, refl)
+
+stopped : (ts : Ts) → no_quals (qual_run ts) ≡ true → (qual_run ts ≡ []) × (after_quals ts ≡ ts)
+unfolding qual_run after_quals
+stopped [] e = (refl, refl)
+stopped (qual q ∷ ts) e = absurd (false_true e)
+stopped (word j w ∷ ts) e = (refl, refl)
+stopped (number m ∷ ts) e = (refl, refl)
+stopped (mark b ∷ ts) e = (refl, refl)
+
+abbrev alike : declared.Qualifier → declared.Qualifier → Bool
+alike a b = same_qualifier (qualifier a) (qualifier b)
+
+-- the code's test of two qualifiers
+same : (a b : declared.Qualifier) (r : Bool) → r ≡ sameb the_type a b → alike a b ≡ r
+same a b r e = go a b ∙ sym e
+  where
+    go : (a b : declared.Qualifier) → alike a b ≡ sameb the_type a b
+    go Const Const = refl
+    go Const Volatile = refl
+    go Const Restrict = refl
+    go Volatile Const = refl
+    go Volatile Volatile = refl
+    go Volatile Restrict = refl
+    go Restrict Const = refl
+    go Restrict Volatile = refl
+    go Restrict Restrict = refl
 
 first_two : (p q : Qualifier) (qs : List Qualifier) → same_qualifier p q ≡ true → distinct (p ∷ q ∷ qs) ≡ false
 unfolding distinct is_qualifier_among
 first_two p q qs e = rw e
 
-abbrev mk : ℕ → ℕ → ℕ → ℕ → Quals
+abbrev mk : Option declared.Qualifier → Option declared.Qualifier → Option declared.Qualifier → ℕ → Quals
 mk a b c e = record { a = a; b = b; c = c; end = e }
 
 ends_one : (a : Bool) → (not a && false) ≡ false
@@ -401,161 +447,111 @@ four restrict const const x qs e f g = absurd (false_true (sym g))
 four restrict const restrict x qs e f g = absurd (false_true (sym f))
 four restrict restrict r x qs e f g = absurd (false_true (sym e))
 
-three_distinct : (p q r : Qualifier) (ts : Ts) → same_qualifier p q ≡ false → (a b : Bool) → same_qualifier p r ≡ a → same_qualifier q r ≡ b
-    → distinct (p ∷ q ∷ r ∷ qual_run ts) ≡ (not a && not b && not (qual_sign (sign_of ts)))
+three_distinct : (p q r : Qualifier) (xs : List Qualifier) → same_qualifier p q ≡ false → (a b : Bool) → same_qualifier p r ≡ a → same_qualifier q r ≡ b
+    → distinct (p ∷ q ∷ r ∷ xs) ≡ (not a && not b && no_quals xs)
 unfolding distinct is_qualifier_among
-three_distinct p q r ts e true b f g = rw (e, f)
-three_distinct p q r ts e false true f g = rw (e, f, g) (ends (is_qualifier_among p (qual_run ts)))
+three_distinct p q r xs e true b f g = rw (e, f)
+three_distinct p q r xs e false true f g = rw (e, f, g) (ends_one (is_qualifier_among p xs))
+three_distinct p q r xs e false false f g = go xs
   where
-    ends : (a : Bool) → (not a && false) ≡ false
-    ends true = refl
-    ends false = refl
-three_distinct p q r ts e false false f g = go (qual_sign (sign_of ts)) refl
-  where
-    go : (b : Bool) → qual_sign (sign_of ts) ≡ b → distinct (p ∷ q ∷ r ∷ qual_run ts) ≡ not b
-    go true h =
-        let k = qstep ts h in
-        ap (λ (x : List Qualifier). distinct (p ∷ q ∷ r ∷ x)) k.run_is ∙ four p q r k.is (qual_run (rest ts)) e f g
-    go false h = ap (λ (x : List Qualifier). distinct (p ∷ q ∷ r ∷ x)) (qover ts h).0 ∙ rw (e, f, g)
+    go : (xs : List Qualifier) → distinct (p ∷ q ∷ r ∷ xs) ≡ no_quals xs
+    go [] = rw (e, f, g)
+    go (x ∷ xs) = four p q r x xs e f g
 
 module _ (s : List ℕ) (at : ℕ) (t : Tok) (l : Looked s at t) where
-  module _ (r : Bool) (e : r ≡ qual_sign t.sign) where
-    pub quals_none : r ≡ false → QualsAt s at (Some (mk 0 0 0 at))
-    unfolding distinct qual_of
-    quals_none f =
-        let o = qover (tokens_at s at) (sym (e ∙ ap qual_sign l.sign_is) ∙ f) in
-        record { apart = ap distinct o.0; list_is = sym o.0; rest_is = sym o.1 }
+  pub quals_none : NoQual t.kind → QualsAt s at (Some (mk None None None at))
+  unfolding distinct
+  quals_none f =
+      let o = qover (tokens_at s at) t.kind l.kind_is f in
+      record { apart = ap distinct o.0; list_is = sym o.0; rest_is = sym o.1 }
 
-    module _ (y : r ≡ true) where
-      q₁ : QStep (tokens_at s at)
-      q₁ = qstep (tokens_at s at) (sym (e ∙ ap qual_sign l.sign_is) ∙ y)
+  module _ (a : declared.Qualifier) (y : t.kind ≡ kinds.Qualifier a) where
+    q₁ : QStep a (tokens_at s at)
+    q₁ = qstep a (tokens_at s at) (sym y ∙ l.kind_is)
 
-      code₁ : t.sign ≡ qual_code q₁.is
-      code₁ = l.sign_is ∙ q₁.sign_is
+    run₁ : qual_run (tokens_at s at) ≡ qualifier a ∷ qual_run (tokens_at s t.end)
+    run₁ = q₁.run_is ∙ ap (λ (x : Ts). qualifier a ∷ qual_run x) (sym l.rest_is)
 
-      run₁ : qual_run (tokens_at s at) ≡ q₁.is ∷ qual_run (tokens_at s t.end)
-      run₁ = q₁.run_is ∙ ap (λ (x : Ts). q₁.is ∷ qual_run x) (sym l.rest_is)
+    after₁ : after_quals (tokens_at s at) ≡ after_quals (tokens_at s t.end)
+    after₁ = q₁.after_is ∙ ap after_quals (sym l.rest_is)
 
-      after₁ : after_quals (tokens_at s at) ≡ after_quals (tokens_at s t.end)
-      after₁ = q₁.after_is ∙ ap after_quals (sym l.rest_is)
+    module _ (u : Tok) (m : Looked s t.end u) where
+      pub quals_one : NoQual u.kind → QualsAt s at (Some (mk (Some a) None None t.end))
+      unfolding distinct is_qualifier_among
+      quals_one f =
+          let o = qover (tokens_at s t.end) u.kind m.kind_is f in
+          let run : qual_run (tokens_at s at) ≡ qualifier a ∷ [] = run₁ ∙ ap (λ (x : List Qualifier). qualifier a ∷ x) o.0 in
+          record { apart = ap distinct run; list_is = sym run; rest_is = sym (after₁ ∙ o.1) }
 
-      module _ (u : Tok) (m : Looked s t.end u) (r₂ : Bool) (e₂ : r₂ ≡ qual_sign u.sign) where
-        pub quals_one : r₂ ≡ false → QualsAt s at (Some (mk t.sign 0 0 t.end))
-        unfolding distinct is_qualifier_among qual_of
-        quals_one f =
-            let o = qover (tokens_at s t.end) (sym (e₂ ∙ ap qual_sign m.sign_is) ∙ f) in
-            let run : qual_run (tokens_at s at) ≡ q₁.is ∷ [] = run₁ ∙ ap (λ (x : List Qualifier). q₁.is ∷ x) o.0 in
-            record {
-              apart = ap distinct run;
-              list_is = ap (λ (x : ℕ). qual_of x []) code₁ ∙ qual_of_lem q₁.is [] ∙ sym run;
-              rest_is = sym (after₁ ∙ o.1);
-            }
+      module _ (b : declared.Qualifier) (y₂ : u.kind ≡ kinds.Qualifier b) where
+        q₂ : QStep b (tokens_at s t.end)
+        q₂ = qstep b (tokens_at s t.end) (sym y₂ ∙ m.kind_is)
 
-        module _ (y₂ : r₂ ≡ true) where
-          q₂ : QStep (tokens_at s t.end)
-          q₂ = qstep (tokens_at s t.end) (sym (e₂ ∙ ap qual_sign m.sign_is) ∙ y₂)
+        run₂ : qual_run (tokens_at s at) ≡ qualifier a ∷ qualifier b ∷ qual_run (tokens_at s u.end)
+        run₂ = run₁ ∙ ap (λ (x : List Qualifier). qualifier a ∷ x) (q₂.run_is ∙ ap (λ (x : Ts). qualifier b ∷ qual_run x) (sym m.rest_is))
 
-          code₂ : u.sign ≡ qual_code q₂.is
-          code₂ = m.sign_is ∙ q₂.sign_is
+        after₂ : after_quals (tokens_at s at) ≡ after_quals (tokens_at s u.end)
+        after₂ = after₁ ∙ q₂.after_is ∙ ap after_quals (sym m.rest_is)
 
-          run₂ : qual_run (tokens_at s at) ≡ q₁.is ∷ q₂.is ∷ qual_run (tokens_at s u.end)
-          run₂ = run₁ ∙ ap (λ (x : List Qualifier). q₁.is ∷ x) (q₂.run_is ∙ ap (λ (x : Ts). q₂.is ∷ qual_run x) (sym m.rest_is))
+        pub quals_twice : true ≡ sameb the_type a b → QualsAt s at None
+        quals_twice q = ap distinct run₂ ∙ first_two (qualifier a) (qualifier b) (qual_run (tokens_at s u.end)) (same a b true q)
 
-          after₂ : after_quals (tokens_at s at) ≡ after_quals (tokens_at s u.end)
-          after₂ = after₁ ∙ q₂.after_is ∙ ap after_quals (sym m.rest_is)
+        module _ (n : false ≡ sameb the_type a b) (v : Tok) (k : Looked s u.end v) where
+          apart₂ : alike a b ≡ false
+          apart₂ = same a b false n
 
-          same₂ : same_qualifier q₁.is q₂.is ≡ eqb t.sign u.sign
-          same₂ = same_code q₁.is q₂.is ∙ ap (λ (x : ℕ). eqb x (qual_code q₂.is)) (sym code₁) ∙ ap (λ (x : ℕ). eqb t.sign x) (sym code₂)
+          pub quals_two : NoQual v.kind → QualsAt s at (Some (mk (Some a) (Some b) None u.end))
+          unfolding distinct is_qualifier_among
+          quals_two f =
+              let o = qover (tokens_at s u.end) v.kind k.kind_is f in
+              let run : qual_run (tokens_at s at) ≡ qualifier a ∷ qualifier b ∷ [] = run₂ ∙ ap (λ (x : List Qualifier). qualifier a ∷ qualifier b ∷ x) o.0 in
+              let d : distinct (qualifier a ∷ qualifier b ∷ []) ≡ true = rw apart₂ in
+              record { apart = ap distinct run ∙ d; list_is = sym run; rest_is = sym (after₂ ∙ o.1) }
 
-          pub quals_twice : t.sign ≡ u.sign → QualsAt s at None
-          quals_twice q = ap distinct run₂ ∙ first_two q₁.is q₂.is (qual_run (tokens_at s u.end)) (same₂ ∙ eq-eqb t.sign u.sign q)
+          module _ (c : declared.Qualifier) (y₃ : v.kind ≡ kinds.Qualifier c) where
+            q₃ : QStep c (tokens_at s u.end)
+            q₃ = qstep c (tokens_at s u.end) (sym y₃ ∙ k.kind_is)
 
-          module _ (ne : t.sign ≡ u.sign → ⊥) (v : Tok) (k : Looked s u.end v) (r₃ : Bool) (e₃ : r₃ ≡ qual_sign v.sign) where
-            apart₂ : same_qualifier q₁.is q₂.is ≡ false
-            apart₂ = same₂ ∙ ne_eqb t.sign u.sign ne
+            run₃ : qual_run (tokens_at s at) ≡ qualifier a ∷ qualifier b ∷ qualifier c ∷ qual_run (tokens_at s v.end)
+            run₃ = run₂ ∙ ap (λ (x : List Qualifier). qualifier a ∷ qualifier b ∷ x) (q₃.run_is ∙ ap (λ (x : Ts). qualifier c ∷ qual_run x) (sym k.rest_is))
 
-            pub quals_two : r₃ ≡ false → QualsAt s at (Some (mk t.sign u.sign 0 u.end))
-            unfolding distinct is_qualifier_among qual_of
-            quals_two f =
-                let o = qover (tokens_at s u.end) (sym (e₃ ∙ ap qual_sign k.sign_is) ∙ f) in
-                let run : qual_run (tokens_at s at) ≡ q₁.is ∷ q₂.is ∷ [] = run₂ ∙ ap (λ (x : List Qualifier). q₁.is ∷ q₂.is ∷ x) o.0 in
-                let d : distinct (q₁.is ∷ q₂.is ∷ []) ≡ true = rw apart₂ in
+            after₃ : after_quals (tokens_at s at) ≡ after_quals (tokens_at s v.end)
+            after₃ = after₂ ∙ q₃.after_is ∙ ap after_quals (sym k.rest_is)
+
+            ok₃ : distinct (qual_run (tokens_at s at)) ≡ only_three s a b c v.end
+            ok₃ =
+                ap distinct run₃
+                ∙ three_distinct (qualifier a) (qualifier b) (qualifier c) (qual_run (tokens_at s v.end)) apart₂ (alike a c) (alike b c) refl refl
+
+            pub quals_three : (x : Option Quals) → Third s a b c v.end x → QualsAt s at x
+            unfolding Third
+            quals_three (Some x) z =
+                let o = stopped (tokens_at s v.end) (both_true (not (alike a c) && not (alike b c)) (no_quals (qual_run (tokens_at s v.end))) z.0).1 in
                 record {
-                  apart = ap distinct run ∙ d;
-                  list_is =
-                      ap (λ (x : ℕ). qual_of x (qual_of u.sign [])) code₁
-                      ∙ ap (λ (x : ℕ). qual_of (qual_code q₁.is) (qual_of x [])) code₂
-                      ∙ qual_of_lem q₁.is (qual_of (qual_code q₂.is) [])
-                      ∙ ap (λ (x : List Qualifier). q₁.is ∷ x) (qual_of_lem q₂.is [])
-                      ∙ sym run;
-                  rest_is = sym (after₂ ∙ o.1);
+                  apart = ok₃ ∙ z.0;
+                  list_is = z.1 ∙ sym (run₃ ∙ ap (λ (y : List Qualifier). qualifier a ∷ qualifier b ∷ qualifier c ∷ y) o.0);
+                  rest_is = ap (tokens_at s) z.2 ∙ sym (after₃ ∙ o.1);
                 }
-
-            module _ (y₃ : r₃ ≡ true) where
-              q₃ : QStep (tokens_at s u.end)
-              q₃ = qstep (tokens_at s u.end) (sym (e₃ ∙ ap qual_sign k.sign_is) ∙ y₃)
-
-              code₃ : v.sign ≡ qual_code q₃.is
-              code₃ = k.sign_is ∙ q₃.sign_is
-
-              run₃ : qual_run (tokens_at s at) ≡ q₁.is ∷ q₂.is ∷ q₃.is ∷ qual_run (tokens_at s v.end)
-              run₃ = run₂ ∙ ap (λ (x : List Qualifier). q₁.is ∷ q₂.is ∷ x) (q₃.run_is ∙ ap (λ (x : Ts). q₃.is ∷ qual_run x) (sym k.rest_is))
-
-              after₃ : after_quals (tokens_at s at) ≡ after_quals (tokens_at s v.end)
-              after₃ = after₂ ∙ q₃.after_is ∙ ap after_quals (sym k.rest_is)
-
-              same₁₃ : same_qualifier q₁.is q₃.is ≡ eqb t.sign v.sign
-              same₁₃ = same_code q₁.is q₃.is ∙ ap (λ (x : ℕ). eqb x (qual_code q₃.is)) (sym code₁) ∙ ap (λ (x : ℕ). eqb t.sign x) (sym code₃)
-
-              same₂₃ : same_qualifier q₂.is q₃.is ≡ eqb u.sign v.sign
-              same₂₃ = same_code q₂.is q₃.is ∙ ap (λ (x : ℕ). eqb x (qual_code q₃.is)) (sym code₂) ∙ ap (λ (x : ℕ). eqb u.sign x) (sym code₃)
-
-              ok₃ : distinct (qual_run (tokens_at s at)) ≡ (not (eqb t.sign v.sign) && not (eqb u.sign v.sign) && not (qual_sign (sign_of (tokens_at s v.end))))
-              ok₃ = ap distinct run₃ ∙ three_distinct q₁.is q₂.is q₃.is (tokens_at s v.end) apart₂ (eqb t.sign v.sign) (eqb u.sign v.sign) same₁₃ same₂₃
-
-              pub quals_three : (x : Option Quals) → Third s t.sign u.sign v.sign v.end x → QualsAt s at x
-              unfolding Third
-              quals_three (Some x) z =
-                  record {
-                    apart = ok₃ ∙ z.0;
-                    list_is =
-                        z.1
-                        ∙ ap (λ (y : ℕ). qual_of y (qual_of u.sign (qual_of v.sign []))) code₁
-                        ∙ ap (λ (y : ℕ). qual_of (qual_code q₁.is) (qual_of y (qual_of v.sign []))) code₂
-                        ∙ ap (λ (y : ℕ). qual_of (qual_code q₁.is) (qual_of (qual_code q₂.is) (qual_of y []))) code₃
-                        ∙ qual_of_lem q₁.is (qual_of (qual_code q₂.is) (qual_of (qual_code q₃.is) []))
-                        ∙ ap (λ (y : List Qualifier). q₁.is ∷ y) (qual_of_lem q₂.is (qual_of (qual_code q₃.is) []) ∙ ap (λ (y : List Qualifier). q₂.is ∷ y) (qual_of_lem q₃.is []))
-                        ∙ sym (run₃ ∙ ap (λ (y : List Qualifier). q₁.is ∷ q₂.is ∷ q₃.is ∷ y) (no_fourth z.0).0);
-                    rest_is = ap (tokens_at s) z.2 ∙ sym (after₃ ∙ (no_fourth z.0).1);
-                  }
-                where
-                  no_fourth : only_three s t.sign u.sign v.sign v.end ≡ true → (qual_run (tokens_at s v.end) ≡ []) × (after_quals (tokens_at s v.end) ≡ tokens_at s v.end)
-                  no_fourth h =
-                      qover
-                      (tokens_at s v.end)
-                      (not-true
-                      (qual_sign (sign_of (tokens_at s v.end)))
-                      (both_true (not (eqb t.sign v.sign) && not (eqb u.sign v.sign)) (not (qual_sign (sign_of (tokens_at s v.end)))) h).1)
-              quals_three None z = ok₃ ∙ z
+            quals_three None z = ok₃ ∙ z
 
 -- a third qualifier
-module _ (s : List ℕ) (a b c at : ℕ) where
-  pub third_first : a ≡ c → Third s a b c at None
+module _ (s : List ℕ) (a b c : declared.Qualifier) (at : ℕ) where
+  pub third_first : true ≡ sameb the_type a c → Third s a b c at None
   unfolding Third
-  third_first q = rw (eq-eqb a c q)
+  third_first q = rw (same a c true q)
 
-  pub third_second : (a ≡ c → ⊥) → b ≡ c → Third s a b c at None
+  pub third_second : false ≡ sameb the_type a c → true ≡ sameb the_type b c → Third s a b c at None
   unfolding Third
-  third_second n q = rw (ne_eqb a c n, eq-eqb b c q)
+  third_second n q = rw (same a c false n, same b c true q)
 
-  module _ (n₁ : a ≡ c → ⊥) (n₂ : b ≡ c → ⊥) (t : Tok) (l : Looked s at t) (r : Bool) (e : r ≡ qual_sign t.sign) where
-    pub third_fourth : r ≡ true → Third s a b c at None
+  module _ (n₁ : false ≡ sameb the_type a c) (n₂ : false ≡ sameb the_type b c) (t : Tok) (l : Looked s at t) where
+    pub third_fourth : (d : declared.Qualifier) → t.kind ≡ kinds.Qualifier d → Third s a b c at None
     unfolding Third
-    third_fourth y = rw (ne_eqb a c n₁, ne_eqb b c n₂, sym (e ∙ ap qual_sign l.sign_is) ∙ y)
+    third_fourth d y = rw (same a c false n₁, same b c false n₂, (qstep d (tokens_at s at) (sym y ∙ l.kind_is)).run_is)
 
-    pub third_good : r ≡ false → Third s a b c at (Some (mk a b c at))
+    pub third_good : NoQual t.kind → Third s a b c at (Some (mk (Some a) (Some b) (Some c) at))
     unfolding Third
-    third_good y = (rw (ne_eqb a c n₁, ne_eqb b c n₂, sym (e ∙ ap qual_sign l.sign_is) ∙ y), refl, refl)
+    third_good y = (rw (same a c false n₁, same b c false n₂, (qover (tokens_at s at) t.kind l.kind_is y).0), refl, refl)
 
 -- a base with its qualifiers
 pub base_quals : (s : List ℕ) (at : ℕ) (n : Bool) → QualsAt s at None → BaseAt s at n None

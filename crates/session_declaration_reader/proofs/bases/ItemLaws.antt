@@ -1,15 +1,19 @@
 -- Laws for entries in lent words. Assumes nothing.
-use Prim.Native.Nat.{ℕ, zero, suc, ◌+◌, ◌-◌, ◌*◌, ◌≤◌, ◌<◌}
+use Rattle.std.specs.Prelude.{Option, Some, None}
+use Prim.Native.Nat.{ℕ, ◌+◌, ◌-◌, ◌*◌, ◌≤◌, ◌<◌}
 use mathlib.Core.Path.{◌≡◌, refl, ap, sym, ◌∙◌}
-use mathlib.Core.Bool.{Bool, true, false, ◌&&◌}
+use mathlib.Core.Bool.{true, false}
 use mathlib.Core.List.{List, [], ◌∷◌, ◌++◌}
 use native.Mathlib.Omega.{arith}
-use borrow.Author.Tests.{lt-ltb, le-ltb, ne_eqb}
+use borrow.Author.Tests.{lt-ltb, le-ltb}
 use lib.ListN.{length, set}
-use lib.Dec.{ltb, eqb}
-use Rattle.spec_c_dumper.specs.rules.Types.{Qualifier, volatile, const, restrict}
-use Rattle.session_declaration_reader.specs.bases.Items.{Item, item, qual_items, Placed, placed, put_item, one_more, placing}
-use Rattle.session_declaration_reader.specs.bases.Looking.{qual_sign, qual_of}
+use lib.Dec.{ltb}
+use Rattle.spec_c_dumper.specs.rules.Types.{Qualifier}
+use Rattle.session_declaration_reader.specs.bases.Items.{Item, item, qual_code, qual_items, Placed, placed, put_item, one_more, placing}
+use Rattle.session_declaration_reader.specs.bases.Looking.{qualifier, qual_of}
+use Rattle.session_declaration_reader.specs.tokens.Looking.{qualifier_code}
+use Rattle.session_declaration_reader.specs.declared.token_kind.Qualifier as declared
+use Rattle.session_declaration_reader.specs.declared.token_kind.Qualifier.TheVariants.{Const, Volatile, Restrict}
 use Rattle.session_declaration_reader.proofs.tokens.Cases.{passed, failed}
 
 false_true : false ≡ true → ⊥
@@ -54,49 +58,25 @@ module _ (t : List ℕ) (n k x y : ℕ) where
       sym (λ i. placed (more_is h i) (e i))
 
 -- qualifiers
-both_true : (a b : Bool) → (a && b) ≡ true → (a ≡ true) × (b ≡ true)
-both_true true b e = (refl, e)
-both_true false b e = absurd (false_true e)
+pub code_is : (q : declared.Qualifier) → qual_code (qualifier q) ≡ qualifier_code q
+code_is Const = refl
+code_is Volatile = refl
+code_is Restrict = refl
 
-qual_none : (g : ℕ) (qs : List Qualifier) → qual_sign g ≡ false → qual_of g qs ≡ qs
-unfolding qual_of
-qual_none g qs e =
-    failed (eqb g 1) _ _ (ne_eqb g 1 (λ q. false_true (sym e ∙ ap qual_sign q)))
-    ∙ failed (eqb g 2) _ _ (ne_eqb g 2 (λ q. false_true (sym e ∙ ap qual_sign q)))
-    ∙ failed (eqb g 3) _ qs (ne_eqb g 3 (λ q. false_true (sym e ∙ ap qual_sign q)))
+quals_split : (g : Option declared.Qualifier) (qs : List Qualifier) → qual_items (qual_of g qs) ≡ qual_items (qual_of g []) ++ qual_items qs
+quals_split (Some q) qs = refl
+quals_split None qs = refl
 
-qual_item : (g : ℕ) → qual_sign g ≡ true → qual_items (qual_of g []) ≡ item 5 g 0 ∷ []
-unfolding qual_of
-qual_item zero e = absurd (false_true e)
-qual_item (suc zero) e = refl
-qual_item (suc (suc zero)) e = refl
-qual_item (suc (suc (suc zero))) e = refl
-qual_item (suc (suc (suc (suc g)))) e =
-    absurd
-    (false_true
-    (sym (le-ltb (suc (suc (suc (suc g)))) 4 (omega arith)) ∙ (both_true (ltb 0 (suc (suc (suc (suc g))))) (ltb (suc (suc (suc (suc g)))) 4) e).1))
+module _ (t : List ℕ) (n : ℕ) (g : Option declared.Qualifier) where
+  pub qual_put : (q : declared.Qualifier) → g ≡ Some q → (m : ℕ) (t' : List ℕ) → placed m t' ≡ placing t n (item 5 (qualifier_code q) 0 ∷ [])
+      → placed m t' ≡ placing t n (qual_items (qual_of g []))
+  qual_put q e m t' f = f ∙ ap (λ (x : ℕ). placing t n (item 5 x 0 ∷ [])) (sym (code_is q)) ∙ ap (λ x. placing t n (qual_items (qual_of x []))) (sym e)
 
-quals_split : (g : ℕ) (qs : List Qualifier) → qual_items (qual_of g qs) ≡ qual_items (qual_of g []) ++ qual_items qs
-unfolding qual_of
-quals_split g qs = go (eqb g 1) (eqb g 2) (eqb g 3)
-  where
-    go : (a b c : Bool)
-        → qual_items (elim a [ true ↦ const ∷ qs | false ↦ elim b [ true ↦ volatile ∷ qs | false ↦ elim c [ true ↦ restrict ∷ qs | false ↦ qs ] ] ])
-        ≡ qual_items (elim a [ true ↦ const ∷ [] | false ↦ elim b [ true ↦ volatile ∷ [] | false ↦ elim c [ true ↦ restrict ∷ [] | false ↦ [] ] ] ]) ++ qual_items qs
-    go true b c = refl
-    go false true c = refl
-    go false false true = refl
-    go false false false = refl
-
-module _ (t : List ℕ) (n g : ℕ) (r : Bool) (e : r ≡ qual_sign g) where
-  pub qual_put : r ≡ true → (m : ℕ) (t' : List ℕ) → placed m t' ≡ placing t n (item 5 g 0 ∷ []) → placed m t' ≡ placing t n (qual_items (qual_of g []))
-  qual_put h m t' f = f ∙ ap (placing t n) (sym (qual_item g (sym e ∙ h)))
-
-  pub qual_not : r ≡ false → placed n t ≡ placing t n (qual_items (qual_of g []))
+  pub qual_not : g ≡ None → placed n t ≡ placing t n (qual_items (qual_of g []))
   unfolding placing
-  qual_not h = sym (ap (λ qs. placing t n (qual_items qs)) (qual_none g [] (sym e ∙ h)))
+  qual_not e = sym (ap (λ x. placing t n (qual_items (qual_of x []))) e)
 
-pub quals_put : (t : List ℕ) (n a b c : ℕ) (m₁ : ℕ) (t₁ : List ℕ) (m₂ : ℕ) (t₂ : List ℕ) (m₃ : ℕ) (t₃ : List ℕ)
+pub quals_put : (t : List ℕ) (n : ℕ) (a b c : Option declared.Qualifier) (m₁ : ℕ) (t₁ : List ℕ) (m₂ : ℕ) (t₂ : List ℕ) (m₃ : ℕ) (t₃ : List ℕ)
     → placed m₁ t₁ ≡ placing t n (qual_items (qual_of a [])) → placed m₂ t₂ ≡ placing t₁ m₁ (qual_items (qual_of b [])) → placed m₃ t₃ ≡ placing t₂ m₂ (qual_items (qual_of c []))
     → placed m₃ t₃ ≡ placing t n (qual_items (qual_of a (qual_of b (qual_of c []))))
 quals_put t n a b c m₁ t₁ m₂ t₂ m₃ t₃ e f g =

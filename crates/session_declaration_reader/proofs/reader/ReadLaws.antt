@@ -15,7 +15,7 @@ use Rattle.session_declaration_reader.specs.tokens.Tokens.{Token, qual, word, nu
 use Rattle.session_declaration_reader.specs.grammar.Grammar.{Reads, reads, fails, and_then, read_base, declarator}
 use Rattle.session_declaration_reader.specs.bases.Bases.{qual_run, after_quals, word_run, after_words, words_of}
 use Rattle.session_declaration_reader.specs.reader.Reading.{most, chain, refused, read_tokens, within_most, whole, read_with}
-use Rattle.session_declaration_reader.specs.tokens.Looking.{Span, tokens_at, sign_of, Looked}
+use Rattle.session_declaration_reader.specs.tokens.Looking.{Span, tokens_at, next_kind, code_of, sign_of, Looked}
 use Rattle.session_declaration_reader.specs.bases.Items.{Item, item, qual_items, one_more, put_item, Placed, placed, placing}
 use Rattle.session_declaration_reader.specs.grammar.Encoding.{base_item, base_kind, any_params, layer_items, param_items}
 use Rattle.session_declaration_reader.specs.reader.Encoding.{chain_items, placed_chain, read_into}
@@ -24,6 +24,8 @@ use Rattle.session_declaration_reader.specs.grammar.Emission.{outcome, emits}
 use Rattle.session_declaration_reader.specs.declared.tokens.Tok.{Tok}
 use Rattle.session_declaration_reader.specs.declared.bases.Base.{Base}
 use Rattle.session_declaration_reader.specs.declared.bases.items.Spot.{Spot}
+use Rattle.session_declaration_reader.specs.declared.token_kind.TokenKind.TheVariants.{End}
+use Rattle.session_declaration_reader.proofs.tokens.Signs.{signed, end_not}
 use Rattle.session_declaration_reader.proofs.tokens.Cases.{passed, failed}
 use Rattle.session_declaration_reader.proofs.bases.ItemLaws.{placing_then}
 use Rattle.session_declaration_reader.proofs.grammar.ParseLaws as parse
@@ -126,7 +128,7 @@ module _ (t : List ℕ) (c : Chain Span) (n : ℕ) (t' : List ℕ) (e : placed n
       (le_or_lt (entries c) 512)
 
 ends_text : (ts : Ts) → sign_of ts ≡ 0 → ts ≡ []
-unfolding sign_of
+unfolding next_kind
 ends_text [] e = refl
 ends_text (qual const ∷ ts) e = absurd (omega arith)
 ends_text (qual volatile ∷ ts) e = absurd (omega arith)
@@ -138,7 +140,7 @@ ends_text (number n ∷ ts) e = absurd (omega arith)
 ends_text (mark b ∷ ts) e = absurd (omega arith)
 
 goes_on : (c : Chain Span) (ts : Ts) → (sign_of ts ≡ 0 → ⊥) → whole (reads c ts) ≡ refused
-unfolding whole sign_of
+unfolding whole next_kind
 goes_on c [] n = absurd (n refl)
 goes_on c (t ∷ ts) n = refl
 
@@ -198,12 +200,12 @@ module _ (s : List ℕ) (c : List ℕ) where
       is : read_tokens ts ≡ reads (made w.value) (tokens_at s r.at)
       is = here ∙ parse.then_reads (declarator most true us) w.value (tokens_at s r.at) _ (same ∙ w.reads_it)
 
-      pub read_behind : (t.sign ≡ 0 → ⊥) → (n : ℕ) (k : ℕ) (c₃ : List ℕ) → k ≡ length c → placed n c₃ ≡ placed 0 (replicate k 0) → placed n c₃ ≡ read_into s c
-      read_behind f = refuses (reads (made w.value) (tokens_at s r.at)) is (goes_on (made w.value) (tokens_at s r.at) (λ q. f (l.sign_is ∙ q)))
+      pub read_behind : (t.kind ≡ End → ⊥) → (n : ℕ) (k : ℕ) (c₃ : List ℕ) → k ≡ length c → placed n c₃ ≡ placed 0 (replicate k 0) → placed n c₃ ≡ read_into s c
+      read_behind f = refuses (reads (made w.value) (tokens_at s r.at)) is (goes_on (made w.value) (tokens_at s r.at) (λ q. end_not t.kind f (signed l ∙ q)))
 
-      module _ (z : t.sign ≡ 0) (n : ℕ) (c₂ : List ℕ) (p : placed n c₂ ≡ placing c₁ r.n (base_items b 1)) where
+      module _ (z : t.kind ≡ End) (n : ℕ) (c₂ : List ℕ) (p : placed n c₂ ≡ placing c₁ r.n (base_items b 1)) where
         ended : read_tokens ts ≡ reads (made w.value) []
-        ended = is ∙ ap (reads (made w.value)) (ends_text (tokens_at s r.at) (sym l.sign_is ∙ z))
+        ended = is ∙ ap (reads (made w.value)) (ends_text (tokens_at s r.at) (sym (signed l) ∙ ap code_of z))
 
         stored : placed n c₂ ≡ placing c 0 (chain_items (made w.value))
         unfolding chain_items

@@ -10,7 +10,6 @@ use mathlib.Core.Logic.{◌⊎◌, inl, inr, ⊎_elim}
 use lib.ListN.{length, get_or, drop}
 use lib.Seq.{drop-cons}
 use Rattle.std.specs.Prelude.{Option, Some, None}
-use Rattle.std.specs.Option.{unwrap_or, is_some}
 use Rattle.std.specs.List.{list_all}
 use Rattle.std.proofs.lemmas.Option.{none-some}
 use mathlib.Core.Logic.{◌≢◌}
@@ -20,7 +19,10 @@ use Rattle.spec_c_dumper.specs.rules.Types.{is_empty, const, volatile, restrict}
 use Rattle.spec_c_dumper.specs.rules.Names.{same_bytes}
 use Rattle.spec_c_dumper.specs.rules.Decl.{qualifier}
 use Rattle.session_declaration_reader.specs.tokens.Tokens.{Kind, tag_word, void_word, other_word, Token, qual, word, number, mark, is_digit, is_letter, is_word_byte, all_of, identifier, value_of, is_count, kind_of, word_token, run_token}
-use Rattle.session_declaration_reader.specs.tokens.Looking.{token_sign, token_count, token_span, count_value, kind_sign, word_sign, run_sign, run_count, Span}
+use Rattle.session_declaration_reader.specs.tokens.Looking.{token_kind, token_span, count_value, base_kind, word_kind, run_kind, Span}
+use Rattle.session_declaration_reader.specs.declared.token_kind.Qualifier.TheVariants.{Const, Volatile, Restrict}
+use Rattle.session_declaration_reader.specs.declared.token_kind.TokenKind.{TokenKind}
+use Rattle.session_declaration_reader.specs.declared.token_kind.TokenKind.TheVariants.{Qualifier, Tag, Void, Word, Count, Mark}
 use Rattle.session_declaration_reader.proofs.tokens.Cases.{passed, failed}
 
 false_true : false ≡ true → ⊥
@@ -202,23 +204,23 @@ yes_or : (a b : Bool) → a ≡ true → (a || b) ≡ true
 yes_or true b e = refl
 yes_or false b e = absurd (false_true e)
 
-abbrev kind_as : Kind → ℕ
-kind_as k = token_sign {W = ℕ} (word k 0)
+abbrev kind_as : Kind → TokenKind
+kind_as k = token_kind {W = ℕ} (word k 0)
 
 abbrev tagged : List ℕ → Bool
 tagged s = same_bytes s (ascii "struct") || same_bytes s (ascii "union") || same_bytes s (ascii "enum")
 
-tag_kind : (s : List ℕ) → tagged s ≡ true → 4 ≡ kind_sign s
-unfolding kind_sign kind_of
+tag_kind : (s : List ℕ) → tagged s ≡ true → Tag ≡ base_kind s
+unfolding base_kind kind_of
 tag_kind s e = ap kind_as (sym (passed (tagged s) tag_word _ e))
 
 module _ (s : List ℕ) (r₁ : Bool) (e₁ : r₁ ≡ same_bytes s (ascii "struct")) where
-  pub kind_struct : r₁ ≡ true → 4 ≡ kind_sign s
+  pub kind_struct : r₁ ≡ true → Tag ≡ base_kind s
   kind_struct t =
       tag_kind s (yes_or (same_bytes s (ascii "struct") || same_bytes s (ascii "union")) (same_bytes s (ascii "enum")) (yes_or (same_bytes s (ascii "struct")) (same_bytes s (ascii "union")) (sym e₁ ∙ t)))
 
   module _ (f₁ : r₁ ≡ false) (r₂ : Bool) (e₂ : r₂ ≡ same_bytes s (ascii "union")) where
-    pub kind_union : r₂ ≡ true → 4 ≡ kind_sign s
+    pub kind_union : r₂ ≡ true → Tag ≡ base_kind s
     kind_union t =
         tag_kind
         s
@@ -231,49 +233,49 @@ module _ (s : List ℕ) (r₁ : Bool) (e₁ : r₁ ≡ same_bytes s (ascii "stru
     neither f = no_or (same_bytes s (ascii "struct")) (same_bytes s (ascii "union")) (sym e₁ ∙ f₁) ∙ (sym e₂ ∙ f)
 
     module _ (f₂ : r₂ ≡ false) (r₃ : Bool) (e₃ : r₃ ≡ same_bytes s (ascii "enum")) where
-      pub kind_enum : r₃ ≡ true → 4 ≡ kind_sign s
+      pub kind_enum : r₃ ≡ true → Tag ≡ base_kind s
       kind_enum t = tag_kind s (no_or (same_bytes s (ascii "struct") || same_bytes s (ascii "union")) (same_bytes s (ascii "enum")) (neither f₂) ∙ (sym e₃ ∙ t))
 
       untagged : r₃ ≡ false → tagged s ≡ false
       untagged f = no_or (same_bytes s (ascii "struct") || same_bytes s (ascii "union")) (same_bytes s (ascii "enum")) (neither f₂) ∙ (sym e₃ ∙ f)
 
       module _ (f₃ : r₃ ≡ false) (r₄ : Bool) (e₄ : r₄ ≡ same_bytes s (ascii "void")) where
-        pub kind_void : r₄ ≡ true → 5 ≡ kind_sign s
-        unfolding kind_sign kind_of
+        pub kind_void : r₄ ≡ true → Void ≡ base_kind s
+        unfolding base_kind kind_of
         kind_void t = ap kind_as (sym (failed (tagged s) tag_word _ (untagged f₃) ∙ passed (same_bytes s (ascii "void")) void_word other_word (sym e₄ ∙ t)))
 
-        pub kind_other : r₄ ≡ false → 6 ≡ kind_sign s
-        unfolding kind_sign kind_of
+        pub kind_other : r₄ ≡ false → Word ≡ base_kind s
+        unfolding base_kind kind_of
         kind_other t = ap kind_as (sym (failed (tagged s) tag_word _ (untagged f₃) ∙ failed (same_bytes s (ascii "void")) void_word other_word (sym e₄ ∙ t)))
 
 module _ (s : List ℕ) (r₁ : Bool) (e₁ : r₁ ≡ same_bytes s (ascii "const")) where
-  pub word_const : r₁ ≡ true → 1 ≡ word_sign s
-  unfolding word_sign word_token qualifier
-  word_const t = ap token_sign (sym (passed (same_bytes s (ascii "const")) (qual const) _ (sym e₁ ∙ t)))
+  pub word_const : r₁ ≡ true → Qualifier Const ≡ word_kind s
+  unfolding word_kind word_token qualifier
+  word_const t = ap token_kind (sym (passed (same_bytes s (ascii "const")) (qual const) _ (sym e₁ ∙ t)))
 
   module _ (f₁ : r₁ ≡ false) (r₂ : Bool) (e₂ : r₂ ≡ same_bytes s (ascii "volatile")) where
-    pub word_volatile : r₂ ≡ true → 2 ≡ word_sign s
-    unfolding word_sign word_token qualifier
+    pub word_volatile : r₂ ≡ true → Qualifier Volatile ≡ word_kind s
+    unfolding word_kind word_token qualifier
     word_volatile t =
-        ap token_sign (sym (failed (same_bytes s (ascii "const")) (qual const) _ (sym e₁ ∙ f₁) ∙ passed (same_bytes s (ascii "volatile")) (qual volatile) _ (sym e₂ ∙ t)))
+        ap token_kind (sym (failed (same_bytes s (ascii "const")) (qual const) _ (sym e₁ ∙ f₁) ∙ passed (same_bytes s (ascii "volatile")) (qual volatile) _ (sym e₂ ∙ t)))
 
     module _ (f₂ : r₂ ≡ false) (r₃ : Bool) (e₃ : r₃ ≡ same_bytes s (ascii "restrict")) where
-      pub word_restrict : r₃ ≡ true → 3 ≡ word_sign s
-      unfolding word_sign word_token qualifier
+      pub word_restrict : r₃ ≡ true → Qualifier Restrict ≡ word_kind s
+      unfolding word_kind word_token qualifier
       word_restrict t =
           ap
-          token_sign
+          token_kind
           (sym
           (failed (same_bytes s (ascii "const")) (qual const) _ (sym e₁ ∙ f₁)
           ∙ failed (same_bytes s (ascii "volatile")) (qual volatile) _ (sym e₂ ∙ f₂)
           ∙ passed (same_bytes s (ascii "restrict")) (qual restrict) (word (kind_of s) 0) (sym e₃ ∙ t)))
 
-      pub word_base : r₃ ≡ false → (k : ℕ) → k ≡ kind_sign s → k ≡ word_sign s
-      unfolding word_sign word_token qualifier kind_sign
+      pub word_base : r₃ ≡ false → (k : TokenKind) → k ≡ base_kind s → k ≡ word_kind s
+      unfolding word_kind word_token qualifier base_kind
       word_base t k e =
           e
           ∙ ap
-          token_sign
+          token_kind
           (sym
           (failed (same_bytes s (ascii "const")) (qual const) _ (sym e₁ ∙ f₁)
           ∙ failed (same_bytes s (ascii "volatile")) (qual volatile) _ (sym e₂ ∙ f₂)
@@ -283,88 +285,52 @@ both_true : (a b : Bool) → (a && b) ≡ true → (a ≡ true) × (b ≡ true)
 both_true true b e = (refl, e)
 both_true false b e = absurd (false_true e)
 
-pub no_value : (v : Option ℕ) (b : Bool) → b ≡ is_some v → b ≡ false → v ≡ None
-no_value (Some n) b e t = absurd (false_true (sym t ∙ e))
-no_value None b e t = refl
-
 module _ (s : List ℕ) (r₁ : Bool) (e₁ : r₁ ≡ identifier s) where
-  pub run_word : r₁ ≡ true → (k : ℕ) → k ≡ word_sign s → k ≡ run_sign s
-  unfolding run_sign run_token word_sign
-  run_word t k e = e ∙ ap token_sign (sym (passed (identifier s) (word_token s 0) _ (sym e₁ ∙ t)))
+  pub run_word : r₁ ≡ true → (k : TokenKind) → k ≡ word_kind s → k ≡ run_kind s
+  unfolding run_kind run_token word_kind
+  run_word t k e = e ∙ ap token_kind (sym (passed (identifier s) (word_token s 0) _ (sym e₁ ∙ t)))
 
-  module _ (f₁ : r₁ ≡ false) (v : Option ℕ) (e₂ : v ≡ count_value s) where
-    value_some : (n : ℕ) → v ≡ Some n → (is_count s ≡ true) × (n ≡ value_of 0 s)
-    unfolding count_value
-    value_some n h = go (is_count s) refl
+  module _ (f₁ : r₁ ≡ false) where
+    pub run_counted : (n : ℕ) → Some n ≡ count_value s → Count n ≡ run_kind s
+    unfolding run_kind run_token count_value
+    run_counted n e = go (is_count s) refl
       where
-        go : (t : Bool) → is_count s ≡ t → (is_count s ≡ true) × (n ≡ value_of 0 s)
-        go true q = (q, let k : Some n ≡ Some (value_of 0 s) = sym h ∙ e₂ ∙ passed (is_count s) (Some (value_of 0 s)) None q in cc)
-        go false q = absurd (none-some n (sym (sym h ∙ e₂ ∙ failed (is_count s) (Some (value_of 0 s)) None q)))
+        go : (t : Bool) → is_count s ≡ t → Count n ≡ run_kind s
+        go true q =
+            let v : Some n ≡ Some (value_of 0 s) = e ∙ passed (is_count s) (Some (value_of 0 s)) None q in
+            let k : n ≡ value_of 0 s = cc in
+            ap Count k
+            ∙ ap token_kind (sym (failed (identifier s) (word_token s 0) _ (sym e₁ ∙ f₁) ∙ passed (is_count s) (number (value_of 0 s)) _ q))
+        go false q = absurd (none-some n (sym (e ∙ failed (is_count s) (Some (value_of 0 s)) None q)))
 
-    value_none : v ≡ None → is_count s ≡ false
-    unfolding count_value
-    value_none h = go (is_count s) refl
-      where
-        go : (t : Bool) → is_count s ≡ t → is_count s ≡ false
-        go true q = absurd (none-some (value_of 0 s) (sym h ∙ e₂ ∙ passed (is_count s) (Some (value_of 0 s)) None q))
-        go false q = q
+    module _ (n : None ≡ count_value s) (r₃ : Bool) (e₃ : r₃ ≡ same_bytes s (ascii "...")) where
+      no_count : is_count s ≡ false
+      unfolding count_value
+      no_count = go (is_count s) refl
+        where
+          go : (t : Bool) → is_count s ≡ t → is_count s ≡ false
+          go true q = absurd (none-some (value_of 0 s) (n ∙ passed (is_count s) (Some (value_of 0 s)) None q))
+          go false q = q
 
-    pub run_count_lem : (n : ℕ) → v ≡ Some n → 7 ≡ run_sign s
-    unfolding run_sign run_token
-    run_count_lem n h = ap token_sign (sym (failed (identifier s) (word_token s 0) _ (sym e₁ ∙ f₁) ∙ passed (is_count s) (number (value_of 0 s)) _ (value_some n h).0))
-
-    pub run_counted : (b : Bool) → b ≡ is_some v → b ≡ true → 7 ≡ run_sign s
-    run_counted b e t = go v refl (sym e ∙ t)
-      where
-        go : (o : Option ℕ) → v ≡ o → is_some o ≡ true → 7 ≡ run_sign s
-        go (Some n) h q = run_count_lem n h
-        go None h q = absurd (false_true q)
-
-    module _ (n : v ≡ None) (r₃ : Bool) (e₃ : r₃ ≡ same_bytes s (ascii "...")) where
-      pub run_dots : r₃ ≡ true → 62 ≡ run_sign s
-      unfolding run_sign run_token
+      pub run_dots : r₃ ≡ true → Mark 46 ≡ run_kind s
+      unfolding run_kind run_token
       run_dots t =
           ap
-          token_sign
+          token_kind
           (sym
           (failed (identifier s) (word_token s 0) _ (sym e₁ ∙ f₁)
-          ∙ failed (is_count s) (number (value_of 0 s)) _ (value_none n)
+          ∙ failed (is_count s) (number (value_of 0 s)) _ no_count
           ∙ passed (same_bytes s (ascii "...")) (mark 46) (mark 0) (sym e₃ ∙ t)))
 
-      pub run_none : r₃ ≡ false → 16 ≡ run_sign s
-      unfolding run_sign run_token
+      pub run_none : r₃ ≡ false → Mark 0 ≡ run_kind s
+      unfolding run_kind run_token
       run_none t =
           ap
-          token_sign
+          token_kind
           (sym
           (failed (identifier s) (word_token s 0) _ (sym e₁ ∙ f₁)
-          ∙ failed (is_count s) (number (value_of 0 s)) _ (value_none n)
+          ∙ failed (is_count s) (number (value_of 0 s)) _ no_count
           ∙ failed (same_bytes s (ascii "...")) (mark 46) (mark 0) (sym e₃ ∙ t)))
-
-  pub count_word : r₁ ≡ true → 0 ≡ run_count s
-  unfolding run_count run_token word_token
-  count_word t =
-      sym (ap token_count (passed (identifier s) (word_token s 0) _ (sym e₁ ∙ t)) ∙ none (same_bytes s (qualifier const)) (same_bytes s (qualifier volatile)) (same_bytes s (qualifier restrict)))
-    where
-      none : (a b c : Bool) → token_count {W = ℕ} (elim a [ true ↦ qual const | false ↦ elim b [ true ↦ qual volatile | false ↦ elim c [ true ↦ qual restrict | false ↦ word (kind_of s) 0 ] ] ]) ≡ 0
-      none true b c = refl
-      none false true c = refl
-      none false false true = refl
-      none false false false = refl
-
-  -- a run that is no identifier: its count, or 0
-  pub count_or_zero : r₁ ≡ false → (v : Option ℕ) → v ≡ count_value s → unwrap_or v 0 ≡ run_count s
-  unfolding run_count run_token count_value
-  count_or_zero g v e =
-      ap (λ (o : Option ℕ). unwrap_or o 0) e
-      ∙ go (is_count s) (same_bytes s (ascii "..."))
-      ∙ sym (ap token_count (failed (identifier s) (word_token s 0) _ (sym e₁ ∙ g)))
-    where
-      go : (b d : Bool) → unwrap_or (elim b [ true ↦ Some (value_of 0 s) | false ↦ None ]) 0
-          ≡ token_count {W = ℕ} (elim b [ true ↦ number (value_of 0 s) | false ↦ elim d [ true ↦ mark 46 | false ↦ mark 0 ] ])
-      go true d = refl
-      go false true = refl
-      go false false = refl
 
 -- the token of a run, whatever its word is kept as
 abbrev shape : {W : Type 0} → Bool → Bool → Bool → Bool → Bool → Bool → Kind → ℕ → W → Token W
@@ -374,25 +340,16 @@ shape i a b c n d k v w =
       | false ↦ elim n [ true ↦ number v | false ↦ elim d [ true ↦ mark 46 | false ↦ mark 0 ] ]
     ]
 
-shape_sign : (i a b c n d : Bool) (k : Kind) (v : ℕ) (w : Span) → token_sign {W = ℕ} (shape i a b c n d k v 0) ≡ token_sign (shape i a b c n d k v w)
-shape_sign true true b c n d k v w = refl
-shape_sign true false true c n d k v w = refl
-shape_sign true false false true n d k v w = refl
-shape_sign true false false false n d tag_word v w = refl
-shape_sign true false false false n d void_word v w = refl
-shape_sign true false false false n d other_word v w = refl
-shape_sign false a b c true d k v w = refl
-shape_sign false a b c false true k v w = refl
-shape_sign false a b c false false k v w = refl
-
-shape_count : (i a b c n d : Bool) (k : Kind) (v : ℕ) (w : Span) → token_count {W = ℕ} (shape i a b c n d k v 0) ≡ token_count (shape i a b c n d k v w)
-shape_count true true b c n d k v w = refl
-shape_count true false true c n d k v w = refl
-shape_count true false false true n d k v w = refl
-shape_count true false false false n d k v w = refl
-shape_count false a b c true d k v w = refl
-shape_count false a b c false true k v w = refl
-shape_count false a b c false false k v w = refl
+shape_kind : (i a b c n d : Bool) (k : Kind) (v : ℕ) (w : Span) → token_kind {W = ℕ} (shape i a b c n d k v 0) ≡ token_kind (shape i a b c n d k v w)
+shape_kind true true b c n d k v w = refl
+shape_kind true false true c n d k v w = refl
+shape_kind true false false true n d k v w = refl
+shape_kind true false false false n d tag_word v w = refl
+shape_kind true false false false n d void_word v w = refl
+shape_kind true false false false n d other_word v w = refl
+shape_kind false a b c true d k v w = refl
+shape_kind false a b c false true k v w = refl
+shape_kind false a b c false false k v w = refl
 
 shape_span : (i a b c n d : Bool) (k : Kind) (v : ℕ) (w : Span) → token_span (shape i a b c n d k v w) w ≡ w
 shape_span true true b c n d k v w = refl
@@ -404,15 +361,10 @@ shape_span false a b c false true k v w = refl
 shape_span false a b c false false k v w = refl
 
 module _ (s : List ℕ) (w : Span) where
-  pub sign_any : run_sign s ≡ token_sign (run_token s w)
-  unfolding run_sign run_token word_token
-  sign_any =
-      shape_sign (identifier s) (same_bytes s (qualifier const)) (same_bytes s (qualifier volatile)) (same_bytes s (qualifier restrict)) (is_count s) (same_bytes s (ascii "...")) (kind_of s) (value_of 0 s) w
-
-  pub count_any : run_count s ≡ token_count (run_token s w)
-  unfolding run_count run_token word_token
-  count_any =
-      shape_count (identifier s) (same_bytes s (qualifier const)) (same_bytes s (qualifier volatile)) (same_bytes s (qualifier restrict)) (is_count s) (same_bytes s (ascii "...")) (kind_of s) (value_of 0 s) w
+  pub kind_any : run_kind s ≡ token_kind (run_token s w)
+  unfolding run_kind run_token word_token
+  kind_any =
+      shape_kind (identifier s) (same_bytes s (qualifier const)) (same_bytes s (qualifier volatile)) (same_bytes s (qualifier restrict)) (is_count s) (same_bytes s (ascii "...")) (kind_of s) (value_of 0 s) w
 
   pub span_any : token_span (run_token s w) w ≡ w
   unfolding run_token word_token

@@ -10,9 +10,11 @@ use lib.ListN.{length, get_or, take, drop, length-drop, length-take}
 use lib.Seq.{drop-cons, take-suc, get_or-drop}
 use lib.Dec.{eqb}
 use Rattle.session_declaration_reader.specs.tokens.Tokens.{Token, mark, in_run, is_word_byte, is_letter, is_digit, run_token, lone, ended, tokens, rest}
-use Rattle.session_declaration_reader.specs.tokens.Looking.{Span, places, tokens_at, sign_of, first_count, span_of, Looked, Skipped, Ran, run_sign, run_count}
+use Rattle.session_declaration_reader.specs.tokens.Looking.{Span, places, tokens_at, next_kind, span_of, Looked, Skipped, Ran, run_kind}
+use Rattle.session_declaration_reader.specs.declared.token_kind.TokenKind.{TokenKind}
+use Rattle.session_declaration_reader.specs.declared.token_kind.TokenKind.TheVariants.{End, Mark}
 use Rattle.session_declaration_reader.proofs.tokens.Cases.{passed, failed}
-use Rattle.session_declaration_reader.proofs.tokens.Bytes.{drop_end, sign_any, count_any, span_any}
+use Rattle.session_declaration_reader.proofs.tokens.Bytes.{drop_end, kind_any, span_any}
 
 abbrev tk : List ℕ → List ℕ → List ℕ → List (Token Span)
 tk s run t = tokens (places (length s)) run t
@@ -114,40 +116,37 @@ module _ (s : List ℕ) (at e : ℕ) (h : at < e) (k : e ≤ length s) (inv : Ru
 
 -- what the code sees
 module _ (s : List ℕ) (at st : ℕ) (sk : Skipped s at st) where
-  pub look_end : length s ≤ st → Looked s at (record { sign = 0; count = 0; start = st; end = st })
-  unfolding sign_of first_count span_of rest
+  pub look_end : length s ≤ st → Looked s at (record { kind = End; start = st; end = st })
+  unfolding next_kind span_of rest
   look_end h =
       let e : tokens_at s at ≡ [] = sym sk.same_tokens ∙ at_end s st h in
       record {
-        sign_is = sym (ap sign_of e);
-        count_is = sym (ap first_count e);
+        kind_is = sym (ap next_kind e);
         span_is = ap (λ t. span_of t (record { from = st; to = st })) e;
         rest_is = at_end s st h ∙ sym (ap rest e);
         forward = λ n. absurd (n refl);
         inside = λ n. absurd (n refl);
       }
 
-  pub look_mark : st < length s → (r : Bool) → r ≡ in_run (get_or s st 0) → r ≡ false → Looked s at (record { sign = 16 + get_or s st 0; count = 0; start = st; end = st + 1 })
-  unfolding sign_of first_count span_of rest
+  pub look_mark : st < length s → (r : Bool) → r ≡ in_run (get_or s st 0) → r ≡ false → Looked s at (record { kind = Mark (get_or s st 0); start = st; end = st + 1 })
+  unfolding next_kind span_of rest
   look_mark h r f t =
       let e : tokens_at s at ≡ mark (get_or s st 0) ∷ tokens_at s (st + 1) = sym sk.same_tokens ∙ mark_here s st h (sym f ∙ t) (sk.no_space h) in
       record {
-        sign_is = sym (ap sign_of e);
-        count_is = sym (ap first_count e);
+        kind_is = sym (ap next_kind e);
         span_is = ap (λ x. span_of x (record { from = st; to = st + 1 })) e;
         rest_is = sym (ap rest e);
         forward = λ n. omega (arith, sk.forward);
         inside = λ n. omega arith;
       }
 
-  pub look_run : (en : ℕ) → Ran s st en → (g k : ℕ) → g ≡ run_sign (run_bytes s st en) → k ≡ run_count (run_bytes s st en) → Looked s at (record { sign = g; count = k; start = st; end = en })
-  unfolding sign_of first_count span_of rest
-  look_run en a g k p q =
+  pub look_run : (en : ℕ) → Ran s st en → (k : TokenKind) → k ≡ run_kind (run_bytes s st en) → Looked s at (record { kind = k; start = st; end = en })
+  unfolding next_kind span_of rest
+  look_run en a k p =
       let w : Span = record { from = st; to = en } in
       let e : tokens_at s at ≡ run_token (run_bytes s st en) w ∷ tokens_at s en = sym sk.same_tokens ∙ a.token_is in
       record {
-        sign_is = p ∙ sign_any (run_bytes s st en) w ∙ sym (ap sign_of e);
-        count_is = q ∙ count_any (run_bytes s st en) w ∙ sym (ap first_count e);
+        kind_is = p ∙ kind_any (run_bytes s st en) w ∙ sym (ap next_kind e);
         span_is = ap (λ x. span_of x w) e ∙ span_any (run_bytes s st en) w;
         rest_is = sym (ap rest e);
         forward = λ n. omega (arith, sk.forward, a.some);

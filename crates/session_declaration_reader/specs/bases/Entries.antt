@@ -1,6 +1,7 @@
 -- The entries of a chain as three words.
 use Rattle.std.specs.Prelude.{ℕ, Bool, true, false}
 use Rattle.session_declaration_reader.specs.bases.Items.{Item, item}
+use Rattle.session_declaration_reader.specs.tokens.Looking.{qualifier_code}
 use Rattle.session_declaration_reader.specs.declared.bases.items.Entry.{Entry}
 use Rattle.session_declaration_reader.specs.declared.bases.items.Entry.TheVariants.{Base, Pointer, Array, Prototype, Qualifier, FollowedBase}
 
@@ -18,5 +19,5 @@ item_of (Base start length) = item 1 start length
 item_of Pointer = item 2 0 0
 item_of (Array count) = item 3 count 0
 item_of (Prototype takes) = item 4 (any_code takes) 0
-item_of (Qualifier sign) = item 5 sign 0
+item_of (Qualifier q) = item 5 (qualifier_code q) 0
 item_of (FollowedBase start length) = item 6 start length

@@ -1,32 +1,29 @@
 -- What the code sees of the qualifiers and the base at a place of the text, and the entries that it stores of them.
-use Rattle.std.specs.Prelude.{ℕ, Option, Some, None, ◌-◌, ◌≡◌, Bool, true, false, not, ◌&&◌, List, [], ◌∷◌, ◌++◌, ltb, eqb}
+use Rattle.std.specs.Prelude.{ℕ, Option, Some, None, ◌-◌, ◌≡◌, Bool, true, false, not, ◌&&◌, List, [], ◌∷◌, ◌++◌, ltb}
 use Rattle.spec_c_dumper.specs.rules.Types.{Qualifier, volatile, const, restrict}
+use Rattle.session_declaration_reader.specs.declared.token_kind.Qualifier as declared
+use Rattle.session_declaration_reader.specs.declared.token_kind.Qualifier.TheVariants.{Const, Volatile, Restrict}
 use Rattle.session_declaration_reader.specs.tokens.Tokens.{Token, rest}
-use Rattle.session_declaration_reader.specs.tokens.Looking.{Span, tokens_at, sign_of, Looked}
+use Rattle.session_declaration_reader.specs.tokens.Looking.{Span, tokens_at, Looked}
 use Rattle.session_declaration_reader.specs.declared.tokens.Tok.{Tok}
 use Rattle.session_declaration_reader.specs.bases.Bases.{begins_word, ends_name, distinct, qual_run, after_quals, word_run, after_words}
-use Rattle.session_declaration_reader.specs.bases.Bases.{words_of, is_base}
+use Rattle.session_declaration_reader.specs.bases.Bases.{words_of, is_base, same_qualifier, no_quals}
 use Rattle.session_declaration_reader.specs.bases.Items.{Item, item, qual_items, first_from, last_to}
 use Rattle.session_declaration_reader.specs.declared.bases.Quals.{Quals}
 use Rattle.session_declaration_reader.specs.declared.bases.Base.{Base}
 
-abbrev pub qual_sign : ℕ → Bool
-qual_sign sign = ltb 0 sign && ltb sign 4
-
 abbrev pub word_signed : ℕ → Bool
 word_signed sign = ltb 3 sign && ltb sign 7
 
--- `void` by itself, before the mark of that sign
-unfoldable pub void_signed : ℕ → List (Token Span) → Bool
-void_signed sign ts = eqb (sign_of ts) 5 && eqb (sign_of (rest ts)) sign
+abbrev pub qualifier : declared.Qualifier → Qualifier
+qualifier Const = const
+qualifier Volatile = volatile
+qualifier Restrict = restrict
 
--- the qualifier of a sign, before others; none of any other sign
-unfoldable pub qual_of : ℕ → List Qualifier → List Qualifier
-qual_of sign qs =
-    elim (eqb sign 1) [
-      | true ↦ const ∷ qs
-      | false ↦ elim (eqb sign 2) [ true ↦ volatile ∷ qs | false ↦ elim (eqb sign 3) [ true ↦ restrict ∷ qs | false ↦ qs ] ]
-    ]
+-- a qualifier before others, where there is one
+abbrev pub qual_of : Option declared.Qualifier → List Qualifier → List Qualifier
+qual_of (Some q) qs = qualifier q ∷ qs
+qual_of None qs = qs
 
 abbrev pub quals_of : Quals → List Qualifier
 quals_of q = qual_of q.a (qual_of q.b (qual_of q.c []))
@@ -43,11 +40,15 @@ QualsAt s at (Some q) = QualsOf s at q
 QualsAt s at None = distinct (qual_run (tokens_at s at)) ≡ false
 
 -- a third qualifier behind two that differ
-abbrev pub only_three : List ℕ → ℕ → ℕ → ℕ → ℕ → Bool
-only_three s a b c at = not (eqb a c) && not (eqb b c) && not (qual_sign (sign_of (tokens_at s at)))
+abbrev pub only_three : List ℕ → declared.Qualifier → declared.Qualifier → declared.Qualifier → ℕ → Bool
+only_three s a b c at =
+    not (same_qualifier (qualifier a) (qualifier c))
+    && not (same_qualifier (qualifier b) (qualifier c))
+    && no_quals (qual_run (tokens_at s at))
 
-unfoldable pub Third : List ℕ → ℕ → ℕ → ℕ → ℕ → Option Quals → Type 0
-Third s a b c at (Some q) = (only_three s a b c at ≡ true) × (quals_of q ≡ qual_of a (qual_of b (qual_of c []))) × (q.end ≡ at)
+unfoldable pub Third : List ℕ → declared.Qualifier → declared.Qualifier → declared.Qualifier → ℕ → Option Quals → Type 0
+Third s a b c at (Some q) =
+    (only_three s a b c at ≡ true) × (quals_of q ≡ qualifier a ∷ qualifier b ∷ qualifier c ∷ []) × (q.end ≡ at)
 Third s a b c at None = only_three s a b c at ≡ false
 
 -- whether a word of the base stands next

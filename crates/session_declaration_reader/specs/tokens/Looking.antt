@@ -1,8 +1,13 @@
 -- What the code sees of the tokens at a place of the text.
 use Rattle.std.specs.Prelude.{ℕ, Option, Some, None, ◌+◌, ◌-◌, ◌≤◌, ◌<◌, ◌≡◌, List, [], ◌∷◌, true, false, length, get_or, take, drop}
+use Rattle.spec_c_dumper.specs.rules.Types as rules
 use Rattle.spec_c_dumper.specs.rules.Types.{volatile, const, restrict}
 use Rattle.session_declaration_reader.specs.tokens.Tokens.{tag_word, void_word, other_word, Token, qual, word, number, mark, rest}
 use Rattle.session_declaration_reader.specs.tokens.Tokens.{is_count, value_of, kind_of, tokens, word_token, run_token}
+use Rattle.session_declaration_reader.specs.declared.token_kind.Qualifier as declared
+use Rattle.session_declaration_reader.specs.declared.token_kind.Qualifier.TheVariants.{Const, Volatile, Restrict}
+use Rattle.session_declaration_reader.specs.declared.token_kind.TokenKind.{TokenKind}
+use Rattle.session_declaration_reader.specs.declared.token_kind.TokenKind.TheVariants.{End, Qualifier, Tag, Void, Word, Count, Mark}
 use Rattle.session_declaration_reader.specs.declared.tokens.Tok.{Tok}
 
 -- where a word stands in the text
@@ -18,31 +23,42 @@ places n left run = record { from = n - (left + length run); to = n - left }
 unfoldable pub tokens_at : List ℕ → ℕ → List (Token Span)
 tokens_at s at = tokens (places (length s)) [] (drop at s)
 
--- a token as a number
-abbrev pub token_sign : {W : Type 0} → Token W → ℕ
-token_sign (qual const) = 1
-token_sign (qual volatile) = 2
-token_sign (qual restrict) = 3
-token_sign (word tag_word w) = 4
-token_sign (word void_word w) = 5
-token_sign (word other_word w) = 6
-token_sign (number n) = 7
-token_sign (mark b) = 16 + b
+abbrev pub kind_of_qualifier : rules.Qualifier → declared.Qualifier
+kind_of_qualifier const = Const
+kind_of_qualifier volatile = Volatile
+kind_of_qualifier restrict = Restrict
 
--- the next one; 0 where there is none
-unfoldable pub sign_of : {W : Type 0} → List (Token W) → ℕ
-sign_of [] = 0
-sign_of (t ∷ ts) = token_sign t
+abbrev pub token_kind : {W : Type 0} → Token W → TokenKind
+token_kind (qual q) = Qualifier (kind_of_qualifier q)
+token_kind (word tag_word w) = Tag
+token_kind (word void_word w) = Void
+token_kind (word other_word w) = Word
+token_kind (number n) = Count n
+token_kind (mark b) = Mark b
 
-abbrev pub token_count : {W : Type 0} → Token W → ℕ
-token_count (qual q) = 0
-token_count (word k w) = 0
-token_count (number n) = n
-token_count (mark b) = 0
+-- what the next token is
+unfoldable pub next_kind : {W : Type 0} → List (Token W) → TokenKind
+next_kind [] = End
+next_kind (t ∷ ts) = token_kind t
 
-unfoldable pub first_count : {W : Type 0} → List (Token W) → ℕ
-first_count [] = 0
-first_count (t ∷ ts) = token_count t
+abbrev pub qualifier_code : declared.Qualifier → ℕ
+qualifier_code Const = 1
+qualifier_code Volatile = 2
+qualifier_code Restrict = 3
+
+-- what a token is, as a number
+abbrev pub code_of : TokenKind → ℕ
+code_of End = 0
+code_of (Qualifier q) = qualifier_code q
+code_of Tag = 4
+code_of Void = 5
+code_of Word = 6
+code_of (Count n) = 7
+code_of (Mark b) = 16 + b
+
+-- the next token as a number; 0 where there is none
+abbrev pub sign_of : {W : Type 0} → List (Token W) → ℕ
+sign_of ts = code_of (next_kind ts)
 
 -- the place of the next word, or another one
 abbrev pub token_span : Token Span → Span → Span
@@ -57,29 +73,25 @@ span_of (t ∷ ts) d = token_span t d
 
 -- the next token at a place, and where it starts and ends
 pub record Looked (s : List ℕ) (at : ℕ) (t : Tok) : Type 0 where
-  pub sign_is : t.sign ≡ sign_of (tokens_at s at)
-  pub count_is : t.count ≡ first_count (tokens_at s at)
+  pub kind_is : t.kind ≡ next_kind (tokens_at s at)
   pub span_is : span_of (tokens_at s at) (record { from = t.start; to = t.end }) ≡ record { from = t.start; to = t.end }
   pub rest_is : tokens_at s t.end ≡ rest (tokens_at s at)
-  pub forward : (t.sign ≡ 0 → ⊥) → at < t.end
-  pub inside : (t.sign ≡ 0 → ⊥) → t.end ≤ length s
+  pub forward : (t.kind ≡ End → ⊥) → at < t.end
+  pub inside : (t.kind ≡ End → ⊥) → t.end ≤ length s
 
 -- the value of a count
 unfoldable pub count_value : List ℕ → Option ℕ
 count_value run = elim (is_count run) [ true ↦ Some (value_of 0 run) | false ↦ None ]
 
--- the signs of a run
-unfoldable pub kind_sign : List ℕ → ℕ
-kind_sign run = token_sign {W = ℕ} (word (kind_of run) 0)
+-- what a run is
+unfoldable pub base_kind : List ℕ → TokenKind
+base_kind run = token_kind {W = ℕ} (word (kind_of run) 0)
 
-unfoldable pub word_sign : List ℕ → ℕ
-word_sign run = token_sign {W = ℕ} (word_token run 0)
+unfoldable pub word_kind : List ℕ → TokenKind
+word_kind run = token_kind {W = ℕ} (word_token run 0)
 
-unfoldable pub run_sign : List ℕ → ℕ
-run_sign run = token_sign {W = ℕ} (run_token run 0)
-
-unfoldable pub run_count : List ℕ → ℕ
-run_count run = token_count {W = ℕ} (run_token run 0)
+unfoldable pub run_kind : List ℕ → TokenKind
+run_kind run = token_kind {W = ℕ} (run_token run 0)
 
 -- where the first byte from a place on stands that is no space
 pub record Skipped (s : List ℕ) (at r : ℕ) : Type 0 where

@@ -4,7 +4,8 @@ ghost use Rattle.session_declaration_reader.specs.bases.Items.{item, qual_items,
 ghost use Rattle.session_declaration_reader.specs.bases.Entries.{item_of, base_code};
 ghost use Rattle.session_declaration_reader.specs.bases.Looking.{qual_of, quals_of, base_items};
 
-use crate::bases::{Base, Quals, is_qualifier};
+use crate::bases::{Base, Quals};
+use crate::token_kind::Qualifier;
 use base_bytes::limit;
 
 // Where reading stands in the text, and how many entries there are.
@@ -15,14 +16,14 @@ pub struct Spot {
 }
 
 // An entry of a chain. A base: where its words start in the text, and how many bytes they take. An array: its count. A prototype:
-// whether it has parameters. A qualifier: its sign.
+// whether it has parameters.
 #[derive(Clone, Copy)]
 pub enum Entry {
     Base(u64, u64),
     Pointer,
     Array(u32),
     Prototype(bool),
-    Qualifier(u32),
+    Qualifier(Qualifier),
     // A base behind whose chain another parameter follows.
     FollowedBase(u64, u64),
 }
@@ -38,7 +39,7 @@ impl Entry {
             Entry::Array(count) => (3, count as u64, 0),
             Entry::Prototype(true) => (4, 1, 0),
             Entry::Prototype(false) => (4, 0, 0),
-            Entry::Qualifier(sign) => (5, sign as u64, 0),
+            Entry::Qualifier(qualifier) => (5, qualifier.code(), 0),
             Entry::FollowedBase(start, length) => (6, start, length),
         }
     }
@@ -68,14 +69,13 @@ pub fn put_entry(chain: &mut [u64], n: u32, entry: Entry) -> u32
     put_item(chain, n, kind, x, y)
 }
 
-// A qualifier by its sign, if it is one.
-fn put_qual(chain: &mut [u64], n: u32, sign: u32) -> u32
-    ensures { placed result chain.new ≡ placing chain.old n (qual_items (qual_of sign [])) }
+fn put_qual(chain: &mut [u64], n: u32, qualifier: Option<Qualifier>) -> u32
+    ensures { placed result chain.new ≡ placing chain.old n (qual_items (qual_of qualifier [])) }
 {
-    if is_qualifier(sign) {
-        return put_entry(chain, n, Entry::Qualifier(sign));
+    match qualifier {
+        Some(q) => put_entry(chain, n, Entry::Qualifier(q)),
+        None => n,
     }
-    n
 }
 
 pub fn put_quals(chain: &mut [u64], n: u32, q: Quals) -> u32

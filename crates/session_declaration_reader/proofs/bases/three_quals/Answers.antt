@@ -1,14 +1,14 @@
 use Rattle.session_declaration_reader.proofs.bases.BaseLaws as laws
 use Rattle.session_declaration_reader.proofs.bases.three_quals.Goals as goal
 
-pub returns-then-a-c : goal.returns-then-a-c
-returns-then-a-c c = laws.third_first _ _ _ _ _ c.if-a-c.true
+pub returns-then-eq : goal.returns-then-eq
+returns-then-eq c = laws.third_first _ _ _ _ _ c.if-eq.ensures
 
-pub returns-then-b-c : goal.returns-then-b-c
-returns-then-b-c c = laws.third_second _ _ _ _ _ c.if-a-c.false c.if-b-c.true
+pub returns-then-eq-2 : goal.returns-then-eq-2
+returns-then-eq-2 c = laws.third_second _ _ _ _ _ c.if-eq.ensures c.if-eq-2.ensures
 
-pub returns-then-is_qualifier : goal.returns-then-is_qualifier
-returns-then-is_qualifier c = laws.third_fourth _ _ _ _ _ c.if-a-c.false c.if-b-c.false _ c.token-t.ensures _ c.is_qualifier.ensures c.if-is_qualifier.true
+pub returns-in-Qualifier : goal.returns-in-Qualifier
+returns-in-Qualifier c = laws.third_fourth _ _ _ _ _ c.if-eq.ensures c.if-eq-2.ensures _ c.token-t.ensures _ c.in-Qualifier.is
 
 pub returns : goal.returns
-returns c = laws.third_good _ _ _ _ _ c.if-a-c.false c.if-b-c.false _ c.token-t.ensures _ c.is_qualifier.ensures c.if-is_qualifier.false
+returns c = laws.third_good _ _ _ _ _ c.if-eq.ensures c.if-eq-2.ensures _ c.token-t.ensures c.in_default.not-Qualifier

@@ -8,9 +8,6 @@ use Rattle.session_declaration_reader.proofs.tokens.token.Goals as goal
 pub returns-then-text-start : goal.returns-then-text-start
 returns-then-text-start c = places.look_end _ _ _ c.skip-start.ensures c.if-text-start.true
 
-pub overflow_cast-result : goal.overflow_cast-result
-overflow_cast-result c = omega (arith, c.shared_slice_known-1.given c.skip-start.result)
-
 pub overflow_add-result : goal.overflow_add-result
 overflow_add-result c = omega (arith, c.shared_slice_known-1.given c.skip-start.result)
 
@@ -21,4 +18,4 @@ pub run_end-end-requires : goal.run_end-end-requires
 run_end-end-requires c = (omega arith, sym c.in_run.ensures ∙ c.if-not-in_run.false)
 
 pub returns : goal.returns
-returns c = places.look_run _ _ _ c.skip-start.ensures _ c.run_end-end.ensures _ _ c.run_sign.ensures c.run_count.ensures
+returns c = places.look_run _ _ _ c.skip-start.ensures _ c.run_end-end.ensures _ c.run_kind.ensures

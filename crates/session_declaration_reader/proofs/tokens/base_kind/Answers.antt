@@ -1,5 +1,5 @@
 use Rattle.session_declaration_reader.proofs.tokens.Bytes as bytes
-use Rattle.session_declaration_reader.proofs.tokens.base_sign.Goals as goal
+use Rattle.session_declaration_reader.proofs.tokens.base_kind.Goals as goal
 
 pub returns-then-is_word : goal.returns-then-is_word
 returns-then-is_word c = bytes.kind_struct _ _ c.is_word.ensures c.if-is_word.true
