@@ -99,6 +99,7 @@ fn walk(b: &Table, start: &[u32], st: &mut [u32], stack: &mut [u32], x: u32) -> 
     st[at] = 1;
     stack[0] = x;
     let mut d: usize = 1;
+    // A `while`: the chain of open types grows and falls, so no range says the turns.
     while d > 0 {
         let Some(next) = turn(b, start, st, stack, d) else {
             return true;

@@ -83,6 +83,7 @@ fn walk(b: &Table, start: &[u32], cell: &mut [Cell], y: u32) -> bool
     let mut z = y;
     let mut m: u32 = 0;
     let mut seen = look(b, start, cell, z);
+    // A `while`: each turn goes where the last one read that the type leads.
     while let Cell::Unknown = seen {
         cell[z as usize] = Cell::Passed;
         z = next(b, start, z);

@@ -18,6 +18,7 @@ fn find(b: &Table, work: &[u8], h: u32, bucket: u32, key: Key) -> u32
     ensures { result ≡ class_of (key_in b.now.head b.now.section.now work.now) h }
 {
     let mut l = cell::CLASS_BUCKET.get(work, b.head.types, bucket);
+    // A `while`: a list in the lent work goes by its links.
     while l != 0 {
         let c = l - 1;
         if key.is_same(b.section, load_key(b, work, c)) {

@@ -22,6 +22,7 @@ fn count_below(work: &[u8], types: u32, class: u32, n: u32) -> u32
     let mut c: u32 = 0;
     let mut last: u32 = 0;
     let mut x = cell::FIRST_TAKER.get(work, types, class);
+    // A `while`: a list in the lent work goes by its links.
     while last < x {
         c = add_if(c, cell::TAKEN_NUMBER.get(work, types, x), n);
         last = x;
@@ -43,6 +44,7 @@ fn number_over(work: &[u8], types: u32, class: u32, k: u32) -> u32
 {
     let mut n = k;
     let mut m = step(work, types, class, k, k);
+    // A `while`: until a number is reached that no other takes.
     while n < m {
         n = m;
         m = step(work, types, class, k, n);

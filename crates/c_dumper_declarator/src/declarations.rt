@@ -173,6 +173,7 @@ fn emit_links(
 {
     let mut p = at;
     let mut c = Rest { n, last_was_ptr };
+    // A `while`: an entry says how many are left, since a function or an array takes some with it.
     while 0 < c.n {
         let e = emit_entry(b, work, text, p, c, d, below);
         p = e.at;

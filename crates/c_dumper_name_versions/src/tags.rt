@@ -93,6 +93,7 @@ fn emit_tag_list(
     let mut p = at;
     let mut last: u32 = 0;
     let mut tag = get_field(work, id, cell::FIRST_TAG);
+    // A `while`: a list in the lent work goes by its links.
     while last < tag {
         if b.head.types <= tag {
             return p;

@@ -20,6 +20,7 @@ fn base_in(b: &Table, work: &[u8], n: u32, h: u32) -> Option<Base>
     let key = load_key(b, work, h)?;
     let i = hash_before(b.section, key.name, key.space.number()) % n;
     let mut c = cell::TABLE_BUCKET.get(work, b.head.types, i);
+    // A `while`: a list in the lent work goes by its links.
     while c != 0 {
         let number = key_suffix(b.section, load_key(b, work, c), key);
         if let Some(number) = number {

@@ -1,0 +1,95 @@
+#!/usr/bin/env python3
+"""Counts in src/ the forms that docs/DESIGN-PASS.md speaks of: `python3 tools/forms.py [FOLDER] [--list]`.
+
+FOLDER is a checkout (this one if none is given); with --list each place is printed, as FILE:LINE.
+"""
+import pathlib
+import re
+import sys
+
+FUNCTION = re.compile(r"^\s*(?:pub(?:\([a-z]+\))? )?fn (\w+)(?:<[^>]*>)?\((.*?)\)", re.S | re.M)
+STRUCT = re.compile(r"struct \w+(?:<[^>]*>)? \{(.*?)^\}", re.S | re.M)
+ENUM = re.compile(r"enum (\w+)(?:<[^>]*>)? \{(.*?)^\}", re.S | re.M)
+LOOP = re.compile(r"^( *)(?:while|loop)\b([^{]*)\{\n(.*?)^\1\}", re.S | re.M)
+STEP = re.compile(r"^ *(\w+)(?:\.\w+)? [+-]= (\w+);$", re.M)
+
+
+def structs(text, wanted):
+    return [m.start() for m in STRUCT.finditer(text) if wanted(m.group(1))]
+
+
+def flag_and_value(body):
+    """A field that says whether the others mean something."""
+    return bool(re.search(r"\b(ok|is_sound|is_set|found|is_some): bool", body))
+
+
+def number_or_none(body):
+    """A field that is a refusal's number, or 0 for none."""
+    return bool(re.search(r"\b(number|stop): u32", body))
+
+
+def result_shaped(text):
+    """An enum of two variants of which one says that there is nothing, or that it was refused."""
+    return [m.start() for m in ENUM.finditer(text) if len(re.findall(r"^    \w+[^\n]*,$", m.group(2), re.M)) == 2]
+
+
+def counting(text):
+    """A loop whose own counter is raised by a step that does not depend on what was read."""
+    found = []
+    for m in LOOP.finditer(text):
+        counters = {w for w, step in STEP.findall(m.group(3))}
+        head = set(re.findall(r"\w+", m.group(2)))
+        if counters & head:
+            found.append(m.start())
+    return found
+
+
+def walking(text):
+    counted = set(counting(text))
+    return [m.start() for m in LOOP.finditer(text) if m.start() not in counted]
+
+
+def functions(text, pattern):
+    return [m.start() for m in FUNCTION.finditer(text) if re.search(pattern, " ".join(m.group(2).split()))]
+
+
+def words(text, pattern):
+    return [m.start() for m in re.finditer(pattern, text)]
+
+
+def tested_indexes(text):
+    """An index that is compared with the length before the element is taken: what `get` says."""
+    return words(text, r"if (\w+) < (\w+)\.len\(\)[^{\n]*\{\n[^\n]*\b\2\[\1\]")
+
+
+FORMS = [
+    ("1: structs of a flag and a value that it speaks of", lambda t: structs(t, flag_and_value)),
+    ("1: constants of kinds used", lambda t: words(t, r"\bkind::[A-Z][A-Z_0-9]*\b")),
+    ("1: constants of refusals used", lambda t: words(t, r"\brefusal::[A-Z][A-Z_0-9]*\b")),
+    ("1: structs with a number that is 0 for none", lambda t: structs(t, number_or_none)),
+    ("1: own enums of two variants", result_shaped),
+    ("3: loops that count an index", counting),
+    ("3: other loops by while", walking),
+    ("6: indexes tested by hand", tested_indexes),
+    ("5: functions over a table and its section", lambda t: functions(t, r"\bb: TypeTable, section: &\[u8\]")),
+    ("5: functions over a text and a place in it", lambda t: functions(t, r"\btext: &mut \[u8\], at: usize")),
+]
+
+
+def main():
+    args = [a for a in sys.argv[1:] if not a.startswith("--")]
+    root = pathlib.Path(args[0] if args else pathlib.Path(__file__).resolve().parent.parent)
+    files = sorted(root.glob("crates/*/src/**/*.rt"))
+    for name, find in FORMS:
+        places = []
+        for path in files:
+            text = path.read_text()
+            places += [(path, text.count("\n", 0, at) + 1) for at in find(text)]
+        print(f"{len(places):5} in {len({p for p, _ in places}):3} files  {name}")
+        if "--list" in sys.argv:
+            for path, line in places:
+                print(f"        {path.relative_to(root)}:{line}")
+
+
+if __name__ == "__main__":
+    main()
