@@ -2,4 +2,3 @@
 pub mod Cases
 pub mod Bytes
 pub mod Places
-pub mod Signs

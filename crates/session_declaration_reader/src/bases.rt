@@ -121,7 +121,7 @@ fn base_word(text: &[u8], at: usize, named: bool) -> Option<Tok>
     Some(t)
 }
 
-// Where the words of the base end.
+// Where the words of the base end. `while`, as in `no_tags`: where a word starts is known only when the one before has been read.
 fn after_words(text: &[u8], at: usize, named: bool) -> usize
     ensures { AfterWords text.now at named result }
 {

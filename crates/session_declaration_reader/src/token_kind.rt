@@ -1,7 +1,6 @@
 // What a token of a declaration is.
-ghost use Rattle.std.specs.Prelude.{◌≡◌, ◌+◌, eqb};
-ghost use Rattle.session_declaration_reader.specs.tokens.Looking.{qualifier_code, code_of};
-ghost use Rattle.session_declaration_reader.specs.bases.Looking.{word_signed};
+ghost use Rattle.std.specs.Prelude.{◌≡◌};
+ghost use Rattle.session_declaration_reader.specs.tokens.Looking.{qualifier_code, is_word_kind, is_mark_kind};
 
 #[derive(Clone, Copy, PartialEq, Eq)]
 pub enum Qualifier {
@@ -40,13 +39,13 @@ pub enum TokenKind {
 impl TokenKind {
     // Whether it is a word and no qualifier.
     pub fn is_word(self) -> bool
-        ensures { result ≡ word_signed (code_of self) }
+        ensures { result ≡ is_word_kind self }
     {
         matches!(self, TokenKind::Tag | TokenKind::Void | TokenKind::Word)
     }
 
     pub fn is_mark(self, mark: u8) -> bool
-        ensures { result ≡ eqb (code_of self) (16 + mark) }
+        ensures { result ≡ is_mark_kind mark self }
     {
         matches!(self, TokenKind::Mark(b) if b == mark)
     }

@@ -1,96 +1,118 @@
 -- Laws for the code that reads qualifiers and bases. Assumes nothing.
 use Rattle.std.specs.Prelude.{Option, Some, None}
 use Rattle.std.specs.Option.{is_some}
-use Prim.Native.Nat.{ℕ, ◌+◌, ◌≤◌, ◌<◌}
+use Prim.Native.Nat.{ℕ, ◌≤◌, ◌<◌}
 use mathlib.Core.Path.{◌≡◌, refl, ap, sym, ◌∙◌}
 use mathlib.Core.Bool.{Bool, true, false, not, ◌&&◌}
 use mathlib.Core.List.{List, [], ◌∷◌}
-use native.Mathlib.Omega.{arith}
-use borrow.Author.Tests.{lt-ltb, le-ltb, eq-eqb, ne_eqb, eqb-true, eqb-false, not-true, not-false}
+use borrow.Author.Tests.{not-true, not-false}
 use lib.ListN.{length}
-use lib.Dec.{eqb}
 use Rattle.spec_c_dumper.specs.rules.Types.{Qualifier, volatile, const, restrict}
 use Rattle.session_declaration_reader.specs.tokens.Tokens.{Kind, tag_word, void_word, other_word, Token, qual, word, number, mark, rest}
 use Rattle.session_declaration_reader.specs.bases.Bases.{Spelt, spelt, no_quals, void_before, is_qualifier_among, distinct, begins, begins_word, bracketed, qual_run, after_quals, ends_name, word_run, after_words, is_tag, no_tags, single, is_base, words_of, same_qualifier}
-use Rattle.session_declaration_reader.specs.tokens.Looking.{Span, tokens_at, kind_of_qualifier, next_kind, qualifier_code, code_of, sign_of, span_of, Looked}
+use Rattle.session_declaration_reader.specs.tokens.Looking.{Span, tokens_at, kind_of_qualifier, next_kind, is_word_kind, is_mark_kind, span_of, Looked}
 use Rattle.session_declaration_reader.specs.bases.Items.{first_from, last_to}
-use Rattle.session_declaration_reader.specs.bases.Looking.{word_signed, qualifier, QualsOf, QualsAt, only_three, Third, is_base_word, BaseWord, AfterWords, begins_base, BaseAt}
+use Rattle.session_declaration_reader.specs.bases.Looking.{qualifier, QualsOf, QualsAt, only_three, Third, is_base_word, BaseWord, AfterWords, begins_base, BaseAt}
 use Rattle.session_declaration_reader.specs.declared.tokens.Tok.{Tok}
 use Rattle.session_declaration_reader.specs.declared.bases.Quals.{Quals}
 use Rattle.session_declaration_reader.specs.declared.token_kind.Qualifier as declared
 use Rattle.session_declaration_reader.specs.declared.token_kind.Qualifier.TheVariants.{Const, Volatile, Restrict}
 use Rattle.session_declaration_reader.specs.declared.token_kind.TokenKind.{TokenKind}
 use Rattle.session_declaration_reader.specs.declared.token_kind.TokenKind.TheVariants as kinds
-use Rattle.session_declaration_reader.specs.declared.token_kind.TokenKind.TheVariants.{End, Tag, Void}
+use Rattle.session_declaration_reader.specs.declared.token_kind.TokenKind.TheVariants.{End, Tag, Void, Word, Count, Mark}
 use Rattle.session_declaration_reader.specs.contracts.token_kind.Qualifier.{the_type}
 use denote.Enum.Bare.{sameb}
-use Rattle.session_declaration_reader.proofs.tokens.Signs.{signed, tag_not}
-use Rattle.session_declaration_reader.proofs.tokens.Cases.{passed, failed}
+use Rattle.session_declaration_reader.proofs.tokens.Cases.{false_true, passed, failed}
 
 abbrev Ts : Type 0
 Ts = List (Token Span)
-
-false_true : false ≡ true → ⊥
-false_true q = let k : ◌≡◌ {A = ℕ} 0 1 = cc in omega arith
 
 both_true : (a b : Bool) → (a && b) ≡ true → (a ≡ true) × (b ≡ true)
 both_true true b e = (refl, e)
 both_true false b e = absurd (false_true e)
 
--- signs
-pub begins_sign : (m : ℕ) (ts : Ts) → begins m ts ≡ eqb (sign_of ts) (16 + m)
+-- kinds
+pub begins_kind : (m : ℕ) (ts : Ts) → begins m ts ≡ is_mark_kind m (next_kind ts)
 unfolding begins next_kind
-begins_sign m [] = sym (ne_eqb 0 (16 + m) (λ e. omega arith))
-begins_sign m (qual const ∷ ts) = sym (ne_eqb 1 (16 + m) (λ e. omega arith))
-begins_sign m (qual volatile ∷ ts) = sym (ne_eqb 2 (16 + m) (λ e. omega arith))
-begins_sign m (qual restrict ∷ ts) = sym (ne_eqb 3 (16 + m) (λ e. omega arith))
-begins_sign m (word tag_word w ∷ ts) = sym (ne_eqb 4 (16 + m) (λ e. omega arith))
-begins_sign m (word void_word w ∷ ts) = sym (ne_eqb 5 (16 + m) (λ e. omega arith))
-begins_sign m (word other_word w ∷ ts) = sym (ne_eqb 6 (16 + m) (λ e. omega arith))
-begins_sign m (number n ∷ ts) = sym (ne_eqb 7 (16 + m) (λ e. omega arith))
-begins_sign m (mark b ∷ ts) = go (eqb b m) refl
-  where
-    go : (t : Bool) → eqb b m ≡ t → eqb b m ≡ eqb (16 + b) (16 + m)
-    go true e = e ∙ sym (eq-eqb (16 + b) (16 + m) (ap (λ (x : ℕ). 16 + x) (eqb-true b m e)))
-    go false e = e ∙ sym (ne_eqb (16 + b) (16 + m) (λ q. eqb-false b m e (omega arith)))
+begins_kind m [] = refl
+begins_kind m (qual q ∷ ts) = refl
+begins_kind m (word tag_word w ∷ ts) = refl
+begins_kind m (word void_word w ∷ ts) = refl
+begins_kind m (word other_word w ∷ ts) = refl
+begins_kind m (number n ∷ ts) = refl
+begins_kind m (mark b ∷ ts) = refl
 
-pub word_sign : (ts : Ts) → begins_word ts ≡ word_signed (sign_of ts)
+pub word_kind : (ts : Ts) → begins_word ts ≡ is_word_kind (next_kind ts)
 unfolding begins_word next_kind
-word_sign [] = refl
-word_sign (qual const ∷ ts) = refl
-word_sign (qual volatile ∷ ts) = refl
-word_sign (qual restrict ∷ ts) = refl
-word_sign (word tag_word w ∷ ts) = refl
-word_sign (word void_word w ∷ ts) = refl
-word_sign (word other_word w ∷ ts) = refl
-word_sign (number n ∷ ts) = refl
-word_sign (mark b ∷ ts) = sym (rw (lt-ltb 3 (16 + b) (omega arith), le-ltb (16 + b) 7 (omega arith)))
+word_kind [] = refl
+word_kind (qual q ∷ ts) = refl
+word_kind (word tag_word w ∷ ts) = refl
+word_kind (word void_word w ∷ ts) = refl
+word_kind (word other_word w ∷ ts) = refl
+word_kind (number n ∷ ts) = refl
+word_kind (mark b ∷ ts) = refl
+
+abbrev is_tag_kind : TokenKind → Bool
+is_tag_kind End = false
+is_tag_kind (kinds.Qualifier q) = false
+is_tag_kind Tag = true
+is_tag_kind Void = false
+is_tag_kind Word = false
+is_tag_kind (Count n) = false
+is_tag_kind (Mark b) = false
+
+tag_not : (k : TokenKind) → (k ≡ Tag → ⊥) → is_tag_kind k ≡ false
+tag_not End n = refl
+tag_not (kinds.Qualifier q) n = refl
+tag_not Tag n = absurd (n refl)
+tag_not Void n = refl
+tag_not Word n = refl
+tag_not (Count m) n = refl
+tag_not (Mark b) n = refl
+
+abbrev is_void_kind : TokenKind → Bool
+is_void_kind End = false
+is_void_kind (kinds.Qualifier q) = false
+is_void_kind Tag = false
+is_void_kind Void = true
+is_void_kind Word = false
+is_void_kind (Count n) = false
+is_void_kind (Mark b) = false
+
+abbrev is_qualifier_kind : TokenKind → Bool
+is_qualifier_kind End = false
+is_qualifier_kind (kinds.Qualifier q) = true
+is_qualifier_kind Tag = false
+is_qualifier_kind Void = false
+is_qualifier_kind Word = false
+is_qualifier_kind (Count n) = false
+is_qualifier_kind (Mark b) = false
 
 -- the declared name
-module _ (ts : Ts) (g : ℕ) (e : g ≡ sign_of ts) (r : Bool) (w : r ≡ word_signed g) where
+module _ (ts : Ts) (g : TokenKind) (e : g ≡ next_kind ts) (r : Bool) (w : r ≡ is_word_kind g) where
   is_word : r ≡ begins_word ts
-  is_word = w ∙ ap word_signed e ∙ sym (word_sign ts)
+  is_word = w ∙ ap is_word_kind e ∙ sym (word_kind ts)
 
-  starts : (m : ℕ) → begins m ts ≡ eqb g (16 + m)
-  starts m = begins_sign m ts ∙ ap (λ (x : ℕ). eqb x (16 + m)) (sym e)
+  starts : (m : ℕ) → begins m ts ≡ is_mark_kind m g
+  starts m = begins_kind m ts ∙ ap (is_mark_kind m) (sym e)
 
   pub name_word : r ≡ true → false ≡ ends_name ts
   unfolding ends_name
   name_word t = rw (sym is_word ∙ t)
 
   module _ (f : r ≡ false) where
-    pub name_star : g ≡ 58 → false ≡ ends_name ts
+    pub name_star : is_mark_kind 42 g ≡ true → false ≡ ends_name ts
     unfolding ends_name
-    name_star q = rw (sym is_word ∙ f, starts 42 ∙ eq-eqb g 58 q)
+    name_star q = rw (sym is_word ∙ f, starts 42 ∙ q)
 
-    pub name_other : (g ≡ 58 → ⊥) → (g ≡ 56 → ⊥) → true ≡ ends_name ts
+    pub name_other : is_mark_kind 42 g ≡ false → is_mark_kind 40 g ≡ false → true ≡ ends_name ts
     unfolding ends_name bracketed
-    name_other p q = rw (sym is_word ∙ f, starts 42 ∙ ne_eqb g 58 p, starts 40 ∙ ne_eqb g 56 q)
+    name_other p q = rw (sym is_word ∙ f, starts 42 ∙ p, starts 40 ∙ q)
 
-    pub name_open : (g ≡ 58 → ⊥) → g ≡ 56 → (us : Ts) → us ≡ rest ts → (k : ℕ) → k ≡ sign_of us → not (eqb k 58) ≡ ends_name ts
+    pub name_open : is_mark_kind 42 g ≡ false → is_mark_kind 40 g ≡ true → (us : Ts) → us ≡ rest ts → (k : TokenKind) → k ≡ next_kind us → not (is_mark_kind 42 k) ≡ ends_name ts
     unfolding ends_name bracketed
     name_open p q us u k z =
-        rw (sym is_word ∙ f, starts 42 ∙ ne_eqb g 58 p, starts 40 ∙ eq-eqb g 56 q, begins_sign 42 (rest ts), sym (z ∙ ap sign_of u))
+        rw (sym is_word ∙ f, starts 42 ∙ p, starts 40 ∙ q, begins_kind 42 (rest ts), sym (z ∙ ap next_kind u))
 
   pub base_none : (n : Bool) → r ≡ false → false ≡ is_base_word n ts
   unfolding is_base_word
@@ -110,9 +132,9 @@ pub record Step (n : Bool) (ts : Ts) : Type 0 where
   pub at : Span
   pub run_is : word_run n ts ≡ spelt kind at ∷ word_run n (rest ts)
   pub after_is : after_words n ts ≡ after_words n (rest ts)
-  pub tag_is : is_tag (spelt kind at) ≡ eqb (sign_of ts) 4
+  pub tag_is : is_tag (spelt kind at) ≡ is_tag_kind (next_kind ts)
   pub span_is : (d : Span) → span_of ts d ≡ at
-  pub some : sign_of ts ≡ 0 → ⊥
+  pub some : is_word_kind (next_kind ts) ≡ true
 
 pub step : (n : Bool) (ts : Ts) → is_base_word n ts ≡ true → Step n ts
 unfolding is_base_word begins_word rest next_kind span_of word_run after_words
@@ -129,18 +151,18 @@ step n (word k w ∷ ts) e =
       after_is = rw (f, after_words);
       tag_is = tags k;
       span_is = λ d. refl;
-      some = nonzero k;
+      some = worded k;
     }
   where
-    tags : (k : Kind) → is_tag (spelt k w) ≡ eqb (sign_of (word k w ∷ ts)) 4
+    tags : (k : Kind) → is_tag (spelt k w) ≡ is_tag_kind (next_kind (word k w ∷ ts))
     tags tag_word = refl
     tags void_word = refl
     tags other_word = refl
 
-    nonzero : (k : Kind) → sign_of (word k w ∷ ts) ≡ 0 → ⊥
-    nonzero tag_word q = omega arith
-    nonzero void_word q = omega arith
-    nonzero other_word q = omega arith
+    worded : (k : Kind) → is_word_kind (next_kind (word k w ∷ ts)) ≡ true
+    worded tag_word = refl
+    worded void_word = refl
+    worded other_word = refl
 
 pub record Over (n : Bool) (ts : Ts) : Type 0 where
   pub run_is : word_run n ts ≡ []
@@ -191,14 +213,14 @@ module _ (s : List ℕ) (n : Bool) (i : ℕ) (r : Bool) (e : r ≡ is_base_word 
     st : Step n (tokens_at s i)
     st = step n (tokens_at s i) (sym e ∙ h)
 
-    some_sign : t.kind ≡ End → ⊥
-    some_sign q = st.some (sym (signed l) ∙ ap code_of q)
+    some_kind : t.kind ≡ End → ⊥
+    some_kind q = false_true (ap is_word_kind (sym q ∙ l.kind_is) ∙ st.some)
 
     pub word_forward : i < t.end
-    word_forward = l.forward some_sign
+    word_forward = l.forward some_kind
 
     pub word_inside : t.end ≤ length s
-    word_inside = l.inside some_sign
+    word_inside = l.inside some_kind
 
     here_is : st.at ≡ record { from = t.start; to = t.end }
     here_is = sym (st.span_is (record { from = t.start; to = t.end })) ∙ l.span_is
@@ -218,7 +240,7 @@ module _ (s : List ℕ) (n : Bool) (i : ℕ) (r : Bool) (e : r ≡ is_base_word 
     pub tags_turn : (x : Bool) → (t.kind ≡ Tag → ⊥) → no_tags (word_run n (tokens_at s i)) ≡ x → no_tags (word_run n (tokens_at s t.end)) ≡ x
     unfolding no_tags
     tags_turn x f inv =
-        let g : is_tag (spelt st.kind st.at) ≡ false = st.tag_is ∙ ne_eqb (sign_of (tokens_at s i)) 4 (λ q. tag_not t.kind f (signed l ∙ q)) in
+        let g : is_tag (spelt st.kind st.at) ≡ false = st.tag_is ∙ ap is_tag_kind (sym l.kind_is) ∙ tag_not t.kind f in
         ap (λ (y : Ts). no_tags (word_run n y)) l.rest_is
         ∙ sym (ap no_tags st.run_is ∙ ap (λ (b : Bool). not b && no_tags (word_run n (rest (tokens_at s i)))) g)
         ∙ inv
@@ -226,14 +248,14 @@ module _ (s : List ℕ) (n : Bool) (i : ℕ) (r : Bool) (e : r ≡ is_base_word 
     pub tags_found : (x : Bool) → t.kind ≡ Tag → no_tags (word_run n (tokens_at s i)) ≡ x → false ≡ x
     unfolding no_tags
     tags_found x f inv =
-        let g : is_tag (spelt st.kind st.at) ≡ true = st.tag_is ∙ eq-eqb (sign_of (tokens_at s i)) 4 (sym (signed l) ∙ ap code_of f) in
+        let g : is_tag (spelt st.kind st.at) ≡ true = st.tag_is ∙ ap is_tag_kind (sym l.kind_is ∙ f) in
         sym (ap no_tags st.run_is ∙ ap (λ (b : Bool). not b && no_tags (word_run n (rest (tokens_at s i)))) g) ∙ inv
 
     -- words other than a tag's keyword
     pub base_words : (t.kind ≡ Tag → ⊥) → (b : Bool) → b ≡ no_tags (word_run n (tokens_at s t.end)) → b ≡ is_base (word_run n (tokens_at s i))
     unfolding is_base
     base_words f b q =
-        let g : is_tag (spelt st.kind st.at) ≡ false = st.tag_is ∙ ne_eqb (sign_of (tokens_at s i)) 4 (λ z. tag_not t.kind f (signed l ∙ z)) in
+        let g : is_tag (spelt st.kind st.at) ≡ false = st.tag_is ∙ ap is_tag_kind (sym l.kind_is) ∙ tag_not t.kind f in
         q
         ∙ ap (λ (x : Ts). no_tags (word_run n x)) l.rest_is
         ∙ sym (ap is_base st.run_is ∙ failed (is_tag (spelt st.kind st.at)) (single (word_run n (rest (tokens_at s i)))) (no_tags (word_run n (rest (tokens_at s i)))) g)
@@ -241,7 +263,7 @@ module _ (s : List ℕ) (n : Bool) (i : ℕ) (r : Bool) (e : r ≡ is_base_word 
     tag_single : t.kind ≡ Tag → is_base (word_run n (tokens_at s i)) ≡ single (word_run n (tokens_at s t.end))
     unfolding is_base
     tag_single f =
-        let g : is_tag (spelt st.kind st.at) ≡ true = st.tag_is ∙ eq-eqb (sign_of (tokens_at s i)) 4 (sym (signed l) ∙ ap code_of f) in
+        let g : is_tag (spelt st.kind st.at) ≡ true = st.tag_is ∙ ap is_tag_kind (sym l.kind_is ∙ f) in
         ap is_base st.run_is
         ∙ passed (is_tag (spelt st.kind st.at)) (single (word_run n (rest (tokens_at s i)))) (no_tags (word_run n (rest (tokens_at s i)))) g
         ∙ ap (λ (x : Ts). single (word_run n x)) (sym l.rest_is)
@@ -309,21 +331,19 @@ module _ (m : ℕ) where
   void_not (number x ∷ ts) k e n = refl
   void_not (mark b ∷ ts) k e n = refl
 
-  pub void_next : (ts : Ts) (k : TokenKind) → k ≡ next_kind ts → k ≡ Void → (us : Ts) → us ≡ rest ts → (g : ℕ) → g ≡ sign_of us → eqb g (16 + m) ≡ void_before m ts
+  pub void_next : (ts : Ts) (k : TokenKind) → k ≡ next_kind ts → k ≡ Void → (us : Ts) → us ≡ rest ts → (g : TokenKind) → g ≡ next_kind us → is_mark_kind m g ≡ void_before m ts
   unfolding void_before next_kind rest
   void_next ts k e v us u g q =
-      ap (λ (x : ℕ). eqb x (16 + m)) (q ∙ ap sign_of u) ∙ sym (begins_sign m (rest ts)) ∙ go ts (ap code_of (sym e ∙ v))
+      ap (is_mark_kind m) (q ∙ ap next_kind u) ∙ sym (begins_kind m (rest ts)) ∙ go ts (ap is_void_kind (sym e ∙ v))
     where
-      go : (ts : Ts) → sign_of ts ≡ 5 → begins m (rest ts) ≡ void_before m ts
-      go [] h = absurd (omega arith)
-      go (qual const ∷ ts) h = absurd (omega arith)
-      go (qual volatile ∷ ts) h = absurd (omega arith)
-      go (qual restrict ∷ ts) h = absurd (omega arith)
-      go (word tag_word w ∷ ts) h = absurd (omega arith)
+      go : (ts : Ts) → is_void_kind (next_kind ts) ≡ true → begins m (rest ts) ≡ void_before m ts
+      go [] h = absurd (false_true h)
+      go (qual q ∷ ts) h = absurd (false_true h)
+      go (word tag_word w ∷ ts) h = absurd (false_true h)
       go (word void_word w ∷ ts) h = refl
-      go (word other_word w ∷ ts) h = absurd (omega arith)
-      go (number n ∷ ts) h = absurd (omega arith)
-      go (mark b ∷ ts) h = absurd (omega arith)
+      go (word other_word w ∷ ts) h = absurd (false_true h)
+      go (number n ∷ ts) h = absurd (false_true h)
+      go (mark b ∷ ts) h = absurd (false_true h)
 
 -- qualifiers
 pub record QStep (a : declared.Qualifier) (ts : Ts) : Type 0 where
@@ -335,27 +355,17 @@ back const = refl
 back volatile = refl
 back restrict = refl
 
-code_low : (a : declared.Qualifier) → qualifier_code a < 4
-code_low Const = omega arith
-code_low Volatile = omega arith
-code_low Restrict = omega arith
-
-code_some : (a : declared.Qualifier) → 0 < qualifier_code a
-code_some Const = omega arith
-code_some Volatile = omega arith
-code_some Restrict = omega arith
-
 qstep : (a : declared.Qualifier) (ts : Ts) → kinds.Qualifier a ≡ next_kind ts → QStep a ts
 unfolding next_kind qual_run after_quals rest
-qstep a [] e = absurd (let q : qualifier_code a ≡ 0 = ap code_of e in omega (arith, code_some a))
+qstep a [] e = absurd (false_true (sym (ap is_qualifier_kind e)))
 qstep a (qual q ∷ ts) e =
     let p : a ≡ kind_of_qualifier q = cc in
     record { run_is = ap (λ x. x ∷ qual_run ts) (sym (ap qualifier p ∙ back q)); after_is = refl }
-qstep a (word tag_word w ∷ ts) e = absurd (let q : qualifier_code a ≡ 4 = ap code_of e in omega (arith, code_low a))
-qstep a (word void_word w ∷ ts) e = absurd (let q : qualifier_code a ≡ 5 = ap code_of e in omega (arith, code_low a))
-qstep a (word other_word w ∷ ts) e = absurd (let q : qualifier_code a ≡ 6 = ap code_of e in omega (arith, code_low a))
-qstep a (number n ∷ ts) e = absurd (let q : qualifier_code a ≡ 7 = ap code_of e in omega (arith, code_low a))
-qstep a (mark b ∷ ts) e = absurd (let q : qualifier_code a ≡ 16 + b = ap code_of e in omega (arith, code_low a))
+qstep a (word tag_word w ∷ ts) e = absurd (false_true (sym (ap is_qualifier_kind e)))
+qstep a (word void_word w ∷ ts) e = absurd (false_true (sym (ap is_qualifier_kind e)))
+qstep a (word other_word w ∷ ts) e = absurd (false_true (sym (ap is_qualifier_kind e)))
+qstep a (number n ∷ ts) e = absurd (false_true (sym (ap is_qualifier_kind e)))
+qstep a (mark b ∷ ts) e = absurd (false_true (sym (ap is_qualifier_kind e)))
 
 abbrev NoQual : TokenKind → Type 0
 NoQual k = (x : declared.Qualifier) → k ≡ kinds.Qualifier x → ⊥
@@ -582,14 +592,14 @@ module _ (s : List ℕ) (at : ℕ) (n : Bool) (q : Quals) (a : QualsOf s at q) (
       begun true z = z
       begun false z = absurd (false_true (base_over s n q.end false (sym z) refl ∙ sym e ∙ g))
 
-module _ (ts : Ts) (g : ℕ) (e : g ≡ sign_of ts) where
-  sign_begins : (m : ℕ) → begins m ts ≡ eqb g (16 + m)
-  sign_begins m = begins_sign m ts ∙ ap (λ (x : ℕ). eqb x (16 + m)) (sym e)
+module _ (ts : Ts) (g : TokenKind) (e : g ≡ next_kind ts) where
+  kind_begins : (m : ℕ) → begins m ts ≡ is_mark_kind m g
+  kind_begins m = begins_kind m ts ∙ ap (is_mark_kind m) (sym e)
 
-  pub bracket_not : (g ≡ 56 → ⊥) → false ≡ bracketed ts
+  pub bracket_not : is_mark_kind 40 g ≡ false → false ≡ bracketed ts
   unfolding bracketed
-  bracket_not f = rw (sign_begins 40 ∙ ne_eqb g 56 f)
+  bracket_not f = rw (kind_begins 40 ∙ f)
 
-  pub bracket_next : g ≡ 56 → (us : Ts) → us ≡ rest ts → (k : ℕ) → k ≡ sign_of us → eqb k 58 ≡ bracketed ts
+  pub bracket_next : is_mark_kind 40 g ≡ true → (us : Ts) → us ≡ rest ts → (k : TokenKind) → k ≡ next_kind us → is_mark_kind 42 k ≡ bracketed ts
   unfolding bracketed
-  bracket_next f us u k q = rw (sign_begins 40 ∙ eq-eqb g 56 f, begins_sign 42 (rest ts), sym (q ∙ ap sign_of u))
+  bracket_next f us u k q = rw (kind_begins 40 ∙ f, begins_kind 42 (rest ts), sym (q ∙ ap next_kind u))

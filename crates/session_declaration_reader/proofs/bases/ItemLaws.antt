@@ -2,9 +2,7 @@
 use Rattle.std.specs.Prelude.{Option, Some, None}
 use Prim.Native.Nat.{ℕ, ◌+◌, ◌-◌, ◌*◌, ◌≤◌, ◌<◌}
 use mathlib.Core.Path.{◌≡◌, refl, ap, sym, ◌∙◌}
-use mathlib.Core.Bool.{true, false}
 use mathlib.Core.List.{List, [], ◌∷◌, ◌++◌}
-use native.Mathlib.Omega.{arith}
 use borrow.Author.Tests.{lt-ltb, le-ltb}
 use lib.ListN.{length, set}
 use lib.Dec.{ltb}
@@ -15,9 +13,6 @@ use Rattle.session_declaration_reader.specs.tokens.Looking.{qualifier_code}
 use Rattle.session_declaration_reader.specs.declared.token_kind.Qualifier as declared
 use Rattle.session_declaration_reader.specs.declared.token_kind.Qualifier.TheVariants.{Const, Volatile, Restrict}
 use Rattle.session_declaration_reader.proofs.tokens.Cases.{passed, failed}
-
-false_true : false ≡ true → ⊥
-false_true q = let k : ◌≡◌ {A = ℕ} 0 1 = cc in omega arith
 
 abbrev pub on : Placed → List Item → Placed
 on (placed n t) is = placing t n is

@@ -1,39 +1,34 @@
 -- Laws for the code of the grammar. Assumes nothing.
 use Rattle.std.specs.Prelude.{Some, None}
-use Prim.Native.Nat.{ℕ, zero, suc, ◌+◌, ◌-◌}
+use Prim.Native.Nat.{ℕ, zero, suc, ◌-◌}
 use mathlib.Core.Path.{◌≡◌, refl, ap, sym, ◌∙◌}
 use mathlib.Core.Bool.{Bool, true, false, ◌&&◌, ◌||◌}
 use mathlib.Core.List.{List, [], ◌∷◌, ◌++◌, append_assoc, append-nil}
 use native.Mathlib.Omega.{arith}
-use borrow.Author.Tests.{eq-eqb, ne_eqb}
-use Rattle.spec_c_dumper.specs.rules.Types.{Qualifier, volatile, const, restrict}
+use Rattle.spec_c_dumper.specs.rules.Types.{Qualifier}
 use Rattle.session_declaration_reader.specs.grammar.Chain.{Layers, named, pointer, array, proto, Params, closed, dots, param}
 use Rattle.session_declaration_reader.specs.tokens.Tokens.{tag_word, void_word, other_word, Token, qual, word, number, mark, rest}
 use Rattle.session_declaration_reader.specs.grammar.Grammar.{Reads, reads, fails, and_then, read_base, wanted, wanted_name, wanted_count, declarator, suffixes, params, param_list, param_end}
 use Rattle.session_declaration_reader.specs.bases.Bases.{begins, begins_word, bracketed, distinct, qual_run, after_quals, word_run, after_words, words_of, is_base, void_before}
-use Rattle.session_declaration_reader.specs.tokens.Looking.{Span, tokens_at, next_kind, code_of, sign_of, Looked}
+use Rattle.session_declaration_reader.specs.tokens.Looking.{Span, tokens_at, next_kind, is_word_kind, is_mark_kind, Looked}
 use Rattle.session_declaration_reader.specs.bases.Items.{Item, item, qual_items, first_from, last_to, Placed, placed, placing}
-use lib.Dec.{eqb}
 use Rattle.session_declaration_reader.specs.bases.Entries.{base_code}
 use Rattle.session_declaration_reader.specs.grammar.Encoding.{base_item, base_kind, any_params, layer_items, param_items}
-use Rattle.session_declaration_reader.specs.bases.Looking.{word_signed, quals_of, QualsOf, QualsAt, begins_base, BaseOf, BaseAt, base_items}
+use Rattle.session_declaration_reader.specs.bases.Looking.{quals_of, QualsOf, QualsAt, begins_base, BaseOf, BaseAt, base_items}
 use Rattle.session_declaration_reader.specs.grammar.Emission.{Done, done, none, emits, outcome, proto_items, behind_items, starred, in_brackets, counts, protos, dots_end}
 use Rattle.session_declaration_reader.specs.declared.tokens.Tok.{Tok}
 use Rattle.session_declaration_reader.specs.declared.bases.Quals.{Quals}
 use Rattle.session_declaration_reader.specs.declared.bases.Base.{Base}
 use Rattle.session_declaration_reader.specs.declared.bases.items.Spot.{Spot}
 use Rattle.session_declaration_reader.specs.declared.token_kind.TokenKind.{TokenKind}
-use Rattle.session_declaration_reader.specs.declared.token_kind.TokenKind.TheVariants.{Count}
-use Rattle.session_declaration_reader.proofs.tokens.Signs.{signed}
-use Rattle.session_declaration_reader.proofs.tokens.Cases.{passed, failed}
+use Rattle.session_declaration_reader.specs.declared.token_kind.TokenKind.TheVariants as kinds
+use Rattle.session_declaration_reader.specs.declared.token_kind.TokenKind.TheVariants.{End, Tag, Void, Word, Count, Mark}
+use Rattle.session_declaration_reader.proofs.tokens.Cases.{false_true, passed, failed}
 use Rattle.session_declaration_reader.proofs.bases.ItemLaws.{on, placing_on, placing_then}
-use Rattle.session_declaration_reader.proofs.bases.BaseLaws.{begins_sign, word_sign}
+use Rattle.session_declaration_reader.proofs.bases.BaseLaws.{begins_kind, word_kind}
 
 abbrev Ts : Type 0
 Ts = List (Token Span)
-
-false_true : false ≡ true → ⊥
-false_true q = let k : ◌≡◌ {A = ℕ} 0 1 = cc in omega arith
 
 abbrev spot : ℕ → ℕ → Spot
 spot at n = record { at = at; n = n }
@@ -163,19 +158,19 @@ suffix_on c k n₁ c₁ l f ts o p e = e ∙ stored (suffixes f named ts) ∙ sy
     stored (reads m us) = ap (done us) (unit m)
     stored fails = refl
 
--- tests by signs
+-- tests of what a token is
 module _ (s : List ℕ) (at : ℕ) (t : Tok) (l : Looked s at t) where
-  pub sees : (m : ℕ) → code_of t.kind ≡ 16 + m → begins m (tokens_at s at) ≡ true
-  sees m e = begins_sign m (tokens_at s at) ∙ eq-eqb (sign_of (tokens_at s at)) (16 + m) (sym (signed l) ∙ e)
+  pub sees : (m : ℕ) → is_mark_kind m t.kind ≡ true → begins m (tokens_at s at) ≡ true
+  sees m e = begins_kind m (tokens_at s at) ∙ ap (is_mark_kind m) (sym l.kind_is) ∙ e
 
-  pub misses : (m : ℕ) → (code_of t.kind ≡ 16 + m → ⊥) → begins m (tokens_at s at) ≡ false
-  misses m n = begins_sign m (tokens_at s at) ∙ ne_eqb (sign_of (tokens_at s at)) (16 + m) (λ e. n (signed l ∙ e))
+  pub misses : (m : ℕ) → is_mark_kind m t.kind ≡ false → begins m (tokens_at s at) ≡ false
+  misses m n = begins_kind m (tokens_at s at) ∙ ap (is_mark_kind m) (sym l.kind_is) ∙ n
 
-  wants : {A : Type 0} → (m : ℕ) (k : Ts → Reads Span A) → code_of t.kind ≡ 16 + m → wanted m (tokens_at s at) k ≡ k (tokens_at s t.end)
+  wants : {A : Type 0} → (m : ℕ) (k : Ts → Reads Span A) → is_mark_kind m t.kind ≡ true → wanted m (tokens_at s at) k ≡ k (tokens_at s t.end)
   unfolding wanted
   wants m k e = passed (begins m (tokens_at s at)) (k (rest (tokens_at s at))) fails (sees m e) ∙ ap k (sym l.rest_is)
 
-  wants_not : {A : Type 0} → (m : ℕ) (k : Ts → Reads Span A) → (code_of t.kind ≡ 16 + m → ⊥) → wanted m (tokens_at s at) k ≡ fails
+  wants_not : {A : Type 0} → (m : ℕ) (k : Ts → Reads Span A) → is_mark_kind m t.kind ≡ false → wanted m (tokens_at s at) k ≡ fails
   unfolding wanted
   wants_not m k n = failed (begins m (tokens_at s at)) (k (rest (tokens_at s at))) fails (misses m n)
 
@@ -187,20 +182,27 @@ count_not (word j w ∷ ts) g k e n = refl
 count_not (number m ∷ ts) g k e n = absurd (n m e)
 count_not (mark b ∷ ts) g k e n = refl
 
+abbrev is_count_kind : TokenKind → Bool
+is_count_kind End = false
+is_count_kind (kinds.Qualifier q) = false
+is_count_kind Tag = false
+is_count_kind Void = false
+is_count_kind Word = false
+is_count_kind (Count n) = true
+is_count_kind (Mark b) = false
+
 count_some : {A : Type 0} → (ts : Ts) (m : ℕ) (k : ℕ → Ts → Reads Span A) → Count m ≡ next_kind ts → wanted_count ts k ≡ wanted 93 (rest ts) (k m)
 unfolding wanted_count next_kind rest
-count_some ts m k e = go ts e (sym (ap code_of e))
+count_some ts m k e = go ts e (sym (ap is_count_kind e))
   where
-    go : (ts : Ts) → Count m ≡ next_kind ts → sign_of ts ≡ 7 → wanted_count ts k ≡ wanted 93 (rest ts) (k m)
-    go [] e h = absurd (omega arith)
-    go (qual const ∷ ts) e h = absurd (omega arith)
-    go (qual volatile ∷ ts) e h = absurd (omega arith)
-    go (qual restrict ∷ ts) e h = absurd (omega arith)
-    go (word tag_word w ∷ ts) e h = absurd (omega arith)
-    go (word void_word w ∷ ts) e h = absurd (omega arith)
-    go (word other_word w ∷ ts) e h = absurd (omega arith)
+    go : (ts : Ts) → Count m ≡ next_kind ts → is_count_kind (next_kind ts) ≡ true → wanted_count ts k ≡ wanted 93 (rest ts) (k m)
+    go [] e h = absurd (false_true h)
+    go (qual q ∷ ts) e h = absurd (false_true h)
+    go (word tag_word w ∷ ts) e h = absurd (false_true h)
+    go (word void_word w ∷ ts) e h = absurd (false_true h)
+    go (word other_word w ∷ ts) e h = absurd (false_true h)
     go (number x ∷ ts) e h = let p : x ≡ m = cc in ap (λ y. wanted 93 ts (k y)) p
-    go (mark b ∷ ts) e h = absurd (omega arith)
+    go (mark b ∷ ts) e h = absurd (false_true h)
 
 name_fails : {A : Type 0} → (n : Bool) (ts : Ts) (k : Ts → Reads Span A) → n ≡ true → begins_word ts ≡ false → wanted_name n ts k ≡ fails
 unfolding wanted_name
@@ -226,12 +228,12 @@ module _ (s : List ℕ) (at : ℕ) (left : ℕ) (n : Bool) (c : List ℕ) (k : �
     unroll : D ≡ declarator (suc (left - 1)) n ts
     unroll = let e : left ≡ suc (left - 1) = omega arith in ap (λ (f : ℕ). declarator f n ts) e
 
-    pub decl_star : code_of t.kind ≡ 58 → (o : Done) → o ≡ emits layer_items c k (starred (left - 1) n (tokens_at s t.end)) → o ≡ emits layer_items c k D
+    pub decl_star : is_mark_kind 42 t.kind ≡ true → (o : Done) → o ≡ emits layer_items c k (starred (left - 1) n (tokens_at s t.end)) → o ≡ emits layer_items c k D
     unfolding declarator starred
     decl_star e o q =
         through layer_items s c k o D _ q (unroll ∙ passed (begins 42 ts) (starred (left - 1) n (rest ts)) _ (sees s at t l 42 e) ∙ ap (starred (left - 1) n) (sym l.rest_is))
 
-    module _ (n₁ : code_of t.kind ≡ 58 → ⊥) (b : Bool) (eb : b ≡ bracketed ts) where
+    module _ (n₁ : is_mark_kind 42 t.kind ≡ false) (b : Bool) (eb : b ≡ bracketed ts) where
       no_star : D ≡ elim (bracketed ts) [ true ↦ in_brackets (left - 1) n (rest ts) | false ↦ wanted_name n ts (λ us. suffixes (left - 1) named us) ]
       unfolding declarator in_brackets
       no_star = unroll ∙ failed (begins 42 ts) _ _ (misses s at t l 42 n₁)
@@ -257,9 +259,9 @@ module _ (s : List ℕ) (at : ℕ) (left : ℕ) (n : Bool) (c : List ℕ) (k : �
         unfolding wanted_name
         decl_unnamed e o q = through layer_items s c k o D _ q (core ∙ rw e)
 
-        module _ (e : n ≡ true) (r : Bool) (er : r ≡ word_signed (code_of t.kind)) where
+        module _ (e : n ≡ true) (r : Bool) (er : r ≡ is_word_kind t.kind) where
           is_word : begins_word ts ≡ r
-          is_word = word_sign ts ∙ ap word_signed (sym (signed l)) ∙ sym er
+          is_word = word_kind ts ∙ ap is_word_kind (sym l.kind_is) ∙ sym er
 
           pub decl_nameless : r ≡ false → (c' : List ℕ) → outcome s None c' ≡ emits layer_items c k D
           decl_nameless f c' = bad layer_items s c k c' D (core ∙ name_fails n ts _ e (is_word ∙ f))
@@ -328,12 +330,12 @@ module _ (s : List ℕ) (at : ℕ) (left : ℕ) (n : Bool) (c : List ℕ) (k : �
     w : Read layer_items s r c₁ c k (declarator left n (tokens_at s at))
     w = split layer_items s c k r c₁ (declarator left n (tokens_at s at)) e
 
-    pub in_unclosed : (code_of t.kind ≡ 57 → ⊥) → (c' : List ℕ) → outcome s None c' ≡ emits layer_items c k I
+    pub in_unclosed : is_mark_kind 41 t.kind ≡ false → (c' : List ℕ) → outcome s None c' ≡ emits layer_items c k I
     unfolding in_brackets
     in_unclosed f c' =
         bad layer_items s c k c' I (then_reads (declarator left n (tokens_at s at)) w.value (tokens_at s r.at) _ w.reads_it ∙ wants_not s r.at t l 41 _ f)
 
-    pub in_good : code_of t.kind ≡ 57 → (o : Done) → o ≡ emits layer_items c₁ r.n (suffixes left named (tokens_at s t.end)) → o ≡ emits layer_items c k I
+    pub in_good : is_mark_kind 41 t.kind ≡ true → (o : Done) → o ≡ emits layer_items c₁ r.n (suffixes left named (tokens_at s t.end)) → o ≡ emits layer_items c k I
     unfolding in_brackets
     in_good f o q =
         through
@@ -360,13 +362,13 @@ module _ (s : List ℕ) (at : ℕ) (left : ℕ) (c : List ℕ) (k : ℕ) where
     unrolls : X ≡ suffixes (suc (left - 1)) named (tokens_at s at)
     unrolls = let e : left ≡ suc (left - 1) = omega arith in ap (λ (f : ℕ). suffixes f named (tokens_at s at)) e
 
-    pub suffix_count : code_of t.kind ≡ 107 → (o : Done) → o ≡ emits layer_items c k (counts (left - 1) (tokens_at s t.end)) → o ≡ emits layer_items c k X
+    pub suffix_count : is_mark_kind 91 t.kind ≡ true → (o : Done) → o ≡ emits layer_items c k (counts (left - 1) (tokens_at s t.end)) → o ≡ emits layer_items c k X
     unfolding suffixes counts
     suffix_count e o q =
         through layer_items s c k o X _ q (unrolls ∙ passed (begins 91 (tokens_at s at)) (counts (left - 1) (rest (tokens_at s at))) _ (sees s at t l 91 e) ∙ ap (counts (left - 1)) (sym l.rest_is))
 
-    module _ (n₁ : code_of t.kind ≡ 107 → ⊥) where
-      pub suffix_proto : code_of t.kind ≡ 56 → (o : Done) → o ≡ emits layer_items c k (protos (left - 1) (tokens_at s t.end)) → o ≡ emits layer_items c k X
+    module _ (n₁ : is_mark_kind 91 t.kind ≡ false) where
+      pub suffix_proto : is_mark_kind 40 t.kind ≡ true → (o : Done) → o ≡ emits layer_items c k (protos (left - 1) (tokens_at s t.end)) → o ≡ emits layer_items c k X
       unfolding suffixes protos
       suffix_proto e o q =
           through
@@ -383,7 +385,7 @@ module _ (s : List ℕ) (at : ℕ) (left : ℕ) (c : List ℕ) (k : ℕ) where
           ∙ passed (begins 40 (tokens_at s at)) (protos (left - 1) (rest (tokens_at s at))) _ (sees s at t l 40 e)
           ∙ ap (protos (left - 1)) (sym l.rest_is))
 
-      pub suffix_none : (code_of t.kind ≡ 56 → ⊥) → outcome s (Some (spot at k)) c ≡ emits layer_items c k X
+      pub suffix_none : is_mark_kind 40 t.kind ≡ false → outcome s (Some (spot at k)) c ≡ emits layer_items c k X
       unfolding suffixes layer_items placing
       suffix_none n₂ =
           good
@@ -415,10 +417,10 @@ module _ (s : List ℕ) (at : ℕ) (left : ℕ) (c : List ℕ) (k : ℕ) (t : To
         count_some (tokens_at s at) size (λ n us. suffixes left (array n named) us) (sym y ∙ l.kind_is)
         ∙ ap (λ (x : Ts). wanted 93 x (suffixes left (array size named))) (sym l.rest_is)
 
-    pub counts_open : (code_of u.kind ≡ 109 → ⊥) → (c' : List ℕ) → outcome s None c' ≡ emits layer_items c k C
+    pub counts_open : is_mark_kind 93 u.kind ≡ false → (c' : List ℕ) → outcome s None c' ≡ emits layer_items c k C
     counts_open f c' = bad layer_items s c k c' C (counted ∙ wants_not s t.end u m 93 _ f)
 
-    pub counts_good : code_of u.kind ≡ 109 → (z : ℕ) (c₁ : List ℕ) → placed z c₁ ≡ placing c k (item 3 size 0 ∷ [])
+    pub counts_good : is_mark_kind 93 u.kind ≡ true → (z : ℕ) (c₁ : List ℕ) → placed z c₁ ≡ placing c k (item 3 size 0 ∷ [])
         → (o : Done) → o ≡ emits layer_items c₁ z (suffixes left named (tokens_at s u.end)) → o ≡ emits layer_items c k C
     unfolding layer_items
     counts_good f z c₁ e o q =
@@ -546,17 +548,17 @@ module _ (s : List ℕ) (at : ℕ) (left : ℕ) (c : List ℕ) (k : ℕ) (b : Ba
           (ap (λ (z : Placed). on z (param_items ps)) (p ∙ ap (λ (j : ℕ). placing c k (base_items b j)) (sym h)) ∙ sym (placing_on c k (base_items b (base_kind ps)) (param_items ps)))
       go fails h = refl
 
-  pub behind_base : (y : Bool) → y ≡ eqb (code_of t.kind) 60 → (m : ℕ) (c₁ : List ℕ) → placed m c₁ ≡ placing c k (base_items b (base_code y))
+  pub behind_base : (y : Bool) → y ≡ is_mark_kind 44 t.kind → (m : ℕ) (c₁ : List ℕ) → placed m c₁ ≡ placing c k (base_items b (base_code y))
       → (o : Done) → o ≡ emits param_items c₁ m (param_end left (tokens_at s at)) → o ≡ emits (behind_items b) c k (param_end left (tokens_at s at))
-  behind_base y h = behind_kind y (begins_sign 44 (tokens_at s at) ∙ ap (λ (x : ℕ). eqb x 60) (sym (signed l)) ∙ sym h)
+  behind_base y h = behind_kind y (begins_kind 44 (tokens_at s at) ∙ ap (is_mark_kind 44) (sym l.kind_is) ∙ sym h)
 
 -- behind `...`
 module _ (s : List ℕ) (at : ℕ) (c : List ℕ) (k : ℕ) (t : Tok) (l : Looked s at t) where
-  pub dots_open : (code_of t.kind ≡ 57 → ⊥) → (c' : List ℕ) → outcome s None c' ≡ emits param_items c k (dots_end (tokens_at s at))
+  pub dots_open : is_mark_kind 41 t.kind ≡ false → (c' : List ℕ) → outcome s None c' ≡ emits param_items c k (dots_end (tokens_at s at))
   unfolding dots_end
   dots_open f c' = bad param_items s c k c' (dots_end (tokens_at s at)) (wants_not s at t l 41 _ f)
 
-  pub dots_good : code_of t.kind ≡ 57 → (z : ℕ) (c₁ : List ℕ) → placed z c₁ ≡ placing c k (item 1 0 0 ∷ []) → outcome s (Some (spot t.end z)) c₁ ≡ emits param_items c k (dots_end (tokens_at s at))
+  pub dots_good : is_mark_kind 41 t.kind ≡ true → (z : ℕ) (c₁ : List ℕ) → placed z c₁ ≡ placing c k (item 1 0 0 ∷ []) → outcome s (Some (spot t.end z)) c₁ ≡ emits param_items c k (dots_end (tokens_at s at))
   unfolding dots_end param_items
   dots_good f z c₁ e = good param_items s c k t.end z c₁ dots (dots_end (tokens_at s at)) (wants s at t l 41 _ f) e
 
@@ -573,19 +575,19 @@ module _ (s : List ℕ) (at : ℕ) (left : ℕ) (c : List ℕ) (k : ℕ) where
     unrolled : E ≡ param_end (suc (left - 1)) (tokens_at s at)
     unrolled = let e : left ≡ suc (left - 1) = omega arith in ap (λ (f : ℕ). param_end f (tokens_at s at)) e
 
-    module _ (n₁ : code_of t.kind ≡ 60 → ⊥) where
+    module _ (n₁ : is_mark_kind 44 t.kind ≡ false) where
       closing : E ≡ wanted 41 (tokens_at s at) (λ us. reads closed us)
       unfolding param_end
       closing = unrolled ∙ failed (begins 44 (tokens_at s at)) _ (wanted 41 (tokens_at s at) (λ us. reads closed us)) (misses s at t l 44 n₁)
 
-      pub end_open : (code_of t.kind ≡ 57 → ⊥) → (c' : List ℕ) → outcome s None c' ≡ emits param_items c k E
+      pub end_open : is_mark_kind 41 t.kind ≡ false → (c' : List ℕ) → outcome s None c' ≡ emits param_items c k E
       end_open f c' = bad param_items s c k c' E (closing ∙ wants_not s at t l 41 _ f)
 
-      pub end_close : code_of t.kind ≡ 57 → outcome s (Some (spot t.end k)) c ≡ emits param_items c k E
+      pub end_close : is_mark_kind 41 t.kind ≡ true → outcome s (Some (spot t.end k)) c ≡ emits param_items c k E
       unfolding param_items placing
       end_close f = good param_items s c k t.end k c closed E (closing ∙ wants s at t l 41 _ f) refl
 
-    module _ (y : code_of t.kind ≡ 60) (u : Tok) (m : Looked s t.end u) where
+    module _ (y : is_mark_kind 44 t.kind ≡ true) (u : Tok) (m : Looked s t.end u) where
       more : E ≡ elim (begins 46 (rest (tokens_at s at))) [ true ↦ dots_end (rest (rest (tokens_at s at))) | false ↦ param_list (left - 1) (rest (tokens_at s at)) ]
       unfolding param_end dots_end
       more = unrolled ∙ passed (begins 44 (tokens_at s at)) _ (wanted 41 (tokens_at s at) (λ us. reads closed us)) (sees s at t l 44 y)
@@ -593,7 +595,7 @@ module _ (s : List ℕ) (at : ℕ) (left : ℕ) (c : List ℕ) (k : ℕ) where
       next : begins 46 (rest (tokens_at s at)) ≡ begins 46 (tokens_at s t.end)
       next = ap (begins 46) (sym l.rest_is)
 
-      pub end_dots : code_of u.kind ≡ 62 → (o : Done) → o ≡ emits param_items c k (dots_end (tokens_at s u.end)) → o ≡ emits param_items c k E
+      pub end_dots : is_mark_kind 46 u.kind ≡ true → (o : Done) → o ≡ emits param_items c k (dots_end (tokens_at s u.end)) → o ≡ emits param_items c k E
       end_dots f o q =
           through
           param_items
@@ -608,7 +610,7 @@ module _ (s : List ℕ) (at : ℕ) (left : ℕ) (c : List ℕ) (k : ℕ) where
           ∙ passed (begins 46 (rest (tokens_at s at))) (dots_end (rest (rest (tokens_at s at)))) _ (next ∙ sees s t.end u m 46 f)
           ∙ ap dots_end (ap rest (sym l.rest_is) ∙ sym m.rest_is))
 
-      pub end_list : (code_of u.kind ≡ 62 → ⊥) → (o : Done) → o ≡ emits param_items c k (param_list (left - 1) (tokens_at s t.end)) → o ≡ emits param_items c k E
+      pub end_list : is_mark_kind 46 u.kind ≡ false → (o : Done) → o ≡ emits param_items c k (param_list (left - 1) (tokens_at s t.end)) → o ≡ emits param_items c k E
       end_list f o q =
           through
           param_items
@@ -636,7 +638,7 @@ module _ (s : List ℕ) (at : ℕ) (left : ℕ) (c : List ℕ) (k : ℕ) where
     rolled : R ≡ params (suc (left - 1)) (tokens_at s at)
     rolled = let e : left ≡ suc (left - 1) = omega arith in ap (λ (f : ℕ). params f (tokens_at s at)) e
 
-    pub params_close : code_of t.kind ≡ 57 → (z : ℕ) (c₁ : List ℕ) → placed z c₁ ≡ placing c k (item 4 0 0 ∷ []) → outcome s (Some (spot t.end z)) c₁ ≡ emits proto_items c k R
+    pub params_close : is_mark_kind 41 t.kind ≡ true → (z : ℕ) (c₁ : List ℕ) → placed z c₁ ≡ placing c k (item 4 0 0 ∷ []) → outcome s (Some (spot t.end z)) c₁ ≡ emits proto_items c k R
     unfolding params param_items
     params_close f z c₁ e =
         good
@@ -652,7 +654,7 @@ module _ (s : List ℕ) (at : ℕ) (left : ℕ) (c : List ℕ) (k : ℕ) where
         (rolled ∙ passed (begins 41 (tokens_at s at)) (reads closed (rest (tokens_at s at))) _ (sees s at t l 41 f) ∙ ap (reads closed) (sym l.rest_is))
         e
 
-    module _ (n₁ : code_of t.kind ≡ 57 → ⊥) (v : Bool) (ev : v ≡ void_before 41 (tokens_at s at)) where
+    module _ (n₁ : is_mark_kind 41 t.kind ≡ false) (v : Bool) (ev : v ≡ void_before 41 (tokens_at s at)) where
       listed : R ≡ elim (void_before 41 (tokens_at s at)) [ true ↦ reads closed (rest (rest (tokens_at s at))) | false ↦ param_list (left - 1) (tokens_at s at) ]
       unfolding params
       listed = rolled ∙ failed (begins 41 (tokens_at s at)) (reads closed (rest (tokens_at s at))) _ (misses s at t l 41 n₁)

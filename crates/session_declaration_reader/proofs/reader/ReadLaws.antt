@@ -9,13 +9,13 @@ use native.Mathlib.Omega.{arith}
 use borrow.Author.Tests.{lt-ltb, le-ltb, le-leb, lt-leb, leb-true, leb-false}
 use lib.ListN.{length, replicate, length-append}
 use lib.Dec.{ltb, leb}
-use Rattle.spec_c_dumper.specs.rules.Types.{Qualifier, volatile, const, restrict}
+use Rattle.spec_c_dumper.specs.rules.Types.{Qualifier}
 use Rattle.session_declaration_reader.specs.grammar.Chain.{Layers, named, pointer, array, proto, Params, closed, dots, param, Chain, layer_entries, param_entries, entries}
 use Rattle.session_declaration_reader.specs.tokens.Tokens.{Token, qual, word, number, mark, tag_word, void_word, other_word}
 use Rattle.session_declaration_reader.specs.grammar.Grammar.{Reads, reads, fails, and_then, read_base, declarator}
 use Rattle.session_declaration_reader.specs.bases.Bases.{qual_run, after_quals, word_run, after_words, words_of}
 use Rattle.session_declaration_reader.specs.reader.Reading.{most, chain, refused, read_tokens, within_most, whole, read_with}
-use Rattle.session_declaration_reader.specs.tokens.Looking.{Span, tokens_at, next_kind, code_of, sign_of, Looked}
+use Rattle.session_declaration_reader.specs.tokens.Looking.{Span, tokens_at, next_kind, Looked}
 use Rattle.session_declaration_reader.specs.bases.Items.{Item, item, qual_items, one_more, put_item, Placed, placed, placing}
 use Rattle.session_declaration_reader.specs.grammar.Encoding.{base_item, base_kind, any_params, layer_items, param_items}
 use Rattle.session_declaration_reader.specs.reader.Encoding.{chain_items, placed_chain, read_into}
@@ -24,9 +24,10 @@ use Rattle.session_declaration_reader.specs.grammar.Emission.{outcome, emits}
 use Rattle.session_declaration_reader.specs.declared.tokens.Tok.{Tok}
 use Rattle.session_declaration_reader.specs.declared.bases.Base.{Base}
 use Rattle.session_declaration_reader.specs.declared.bases.items.Spot.{Spot}
-use Rattle.session_declaration_reader.specs.declared.token_kind.TokenKind.TheVariants.{End}
-use Rattle.session_declaration_reader.proofs.tokens.Signs.{signed, end_not}
-use Rattle.session_declaration_reader.proofs.tokens.Cases.{passed, failed}
+use Rattle.session_declaration_reader.specs.declared.token_kind.TokenKind.{TokenKind}
+use Rattle.session_declaration_reader.specs.declared.token_kind.TokenKind.TheVariants as kinds
+use Rattle.session_declaration_reader.specs.declared.token_kind.TokenKind.TheVariants.{End, Tag, Void, Word, Count, Mark}
+use Rattle.session_declaration_reader.proofs.tokens.Cases.{false_true, passed, failed}
 use Rattle.session_declaration_reader.proofs.bases.ItemLaws.{placing_then}
 use Rattle.session_declaration_reader.proofs.grammar.ParseLaws as parse
 
@@ -127,19 +128,26 @@ module _ (t : List ℕ) (c : Chain Span) (n : ℕ) (t' : List ℕ) (e : placed n
       (λ k. failed (leb (entries c) 512) (chain c) refused (lt-leb (entries c) 512 k))
       (le_or_lt (entries c) 512)
 
-ends_text : (ts : Ts) → sign_of ts ≡ 0 → ts ≡ []
+abbrev is_end_kind : TokenKind → Bool
+is_end_kind End = true
+is_end_kind (kinds.Qualifier q) = false
+is_end_kind Tag = false
+is_end_kind Void = false
+is_end_kind Word = false
+is_end_kind (Count n) = false
+is_end_kind (Mark b) = false
+
+ends_text : (ts : Ts) → is_end_kind (next_kind ts) ≡ true → ts ≡ []
 unfolding next_kind
 ends_text [] e = refl
-ends_text (qual const ∷ ts) e = absurd (omega arith)
-ends_text (qual volatile ∷ ts) e = absurd (omega arith)
-ends_text (qual restrict ∷ ts) e = absurd (omega arith)
-ends_text (word tag_word w ∷ ts) e = absurd (omega arith)
-ends_text (word void_word w ∷ ts) e = absurd (omega arith)
-ends_text (word other_word w ∷ ts) e = absurd (omega arith)
-ends_text (number n ∷ ts) e = absurd (omega arith)
-ends_text (mark b ∷ ts) e = absurd (omega arith)
+ends_text (qual q ∷ ts) e = absurd (false_true e)
+ends_text (word tag_word w ∷ ts) e = absurd (false_true e)
+ends_text (word void_word w ∷ ts) e = absurd (false_true e)
+ends_text (word other_word w ∷ ts) e = absurd (false_true e)
+ends_text (number n ∷ ts) e = absurd (false_true e)
+ends_text (mark b ∷ ts) e = absurd (false_true e)
 
-goes_on : (c : Chain Span) (ts : Ts) → (sign_of ts ≡ 0 → ⊥) → whole (reads c ts) ≡ refused
+goes_on : (c : Chain Span) (ts : Ts) → (next_kind ts ≡ End → ⊥) → whole (reads c ts) ≡ refused
 unfolding whole next_kind
 goes_on c [] n = absurd (n refl)
 goes_on c (t ∷ ts) n = refl
@@ -201,11 +209,11 @@ module _ (s : List ℕ) (c : List ℕ) where
       is = here ∙ parse.then_reads (declarator most true us) w.value (tokens_at s r.at) _ (same ∙ w.reads_it)
 
       pub read_behind : (t.kind ≡ End → ⊥) → (n : ℕ) (k : ℕ) (c₃ : List ℕ) → k ≡ length c → placed n c₃ ≡ placed 0 (replicate k 0) → placed n c₃ ≡ read_into s c
-      read_behind f = refuses (reads (made w.value) (tokens_at s r.at)) is (goes_on (made w.value) (tokens_at s r.at) (λ q. end_not t.kind f (signed l ∙ q)))
+      read_behind f = refuses (reads (made w.value) (tokens_at s r.at)) is (goes_on (made w.value) (tokens_at s r.at) (λ q. f (l.kind_is ∙ q)))
 
       module _ (z : t.kind ≡ End) (n : ℕ) (c₂ : List ℕ) (p : placed n c₂ ≡ placing c₁ r.n (base_items b 1)) where
         ended : read_tokens ts ≡ reads (made w.value) []
-        ended = is ∙ ap (reads (made w.value)) (ends_text (tokens_at s r.at) (sym (signed l) ∙ ap code_of z))
+        ended = is ∙ ap (reads (made w.value)) (ends_text (tokens_at s r.at) (ap is_end_kind (sym l.kind_is ∙ z)))
 
         stored : placed n c₂ ≡ placing c 0 (chain_items (made w.value))
         unfolding chain_items

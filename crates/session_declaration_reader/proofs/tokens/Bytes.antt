@@ -23,10 +23,7 @@ use Rattle.session_declaration_reader.specs.tokens.Looking.{token_kind, token_sp
 use Rattle.session_declaration_reader.specs.declared.token_kind.Qualifier.TheVariants.{Const, Volatile, Restrict}
 use Rattle.session_declaration_reader.specs.declared.token_kind.TokenKind.{TokenKind}
 use Rattle.session_declaration_reader.specs.declared.token_kind.TokenKind.TheVariants.{Qualifier, Tag, Void, Word, Count, Mark}
-use Rattle.session_declaration_reader.proofs.tokens.Cases.{passed, failed}
-
-false_true : false ≡ true → ⊥
-false_true q = let k : ◌≡◌ {A = ℕ} 0 1 = cc in omega arith
+use Rattle.session_declaration_reader.proofs.tokens.Cases.{false_true, passed, failed}
 
 module _ (b : ℕ) where
   pub digit_below : b < 48 → false ≡ is_digit b

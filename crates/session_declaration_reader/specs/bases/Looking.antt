@@ -1,5 +1,5 @@
 -- What the code sees of the qualifiers and the base at a place of the text, and the entries that it stores of them.
-use Rattle.std.specs.Prelude.{ℕ, Option, Some, None, ◌-◌, ◌≡◌, Bool, true, false, not, ◌&&◌, List, [], ◌∷◌, ◌++◌, ltb}
+use Rattle.std.specs.Prelude.{ℕ, Option, Some, None, ◌-◌, ◌≡◌, Bool, true, false, not, ◌&&◌, List, [], ◌∷◌, ◌++◌}
 use Rattle.spec_c_dumper.specs.rules.Types.{Qualifier, volatile, const, restrict}
 use Rattle.session_declaration_reader.specs.declared.token_kind.Qualifier as declared
 use Rattle.session_declaration_reader.specs.declared.token_kind.Qualifier.TheVariants.{Const, Volatile, Restrict}
@@ -11,9 +11,6 @@ use Rattle.session_declaration_reader.specs.bases.Bases.{words_of, is_base, same
 use Rattle.session_declaration_reader.specs.bases.Items.{Item, item, qual_items, first_from, last_to}
 use Rattle.session_declaration_reader.specs.declared.bases.Quals.{Quals}
 use Rattle.session_declaration_reader.specs.declared.bases.Base.{Base}
-
-abbrev pub word_signed : ℕ → Bool
-word_signed sign = ltb 3 sign && ltb sign 7
 
 abbrev pub qualifier : declared.Qualifier → Qualifier
 qualifier Const = const

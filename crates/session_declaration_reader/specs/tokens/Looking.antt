@@ -1,5 +1,5 @@
 -- What the code sees of the tokens at a place of the text.
-use Rattle.std.specs.Prelude.{ℕ, Option, Some, None, ◌+◌, ◌-◌, ◌≤◌, ◌<◌, ◌≡◌, List, [], ◌∷◌, true, false, length, get_or, take, drop}
+use Rattle.std.specs.Prelude.{ℕ, Bool, Option, Some, None, ◌+◌, ◌-◌, ◌≤◌, ◌<◌, ◌≡◌, List, [], ◌∷◌, true, false, eqb, length, get_or, take, drop}
 use Rattle.spec_c_dumper.specs.rules.Types as rules
 use Rattle.spec_c_dumper.specs.rules.Types.{volatile, const, restrict}
 use Rattle.session_declaration_reader.specs.tokens.Tokens.{tag_word, void_word, other_word, Token, qual, word, number, mark, rest}
@@ -46,19 +46,25 @@ qualifier_code Const = 1
 qualifier_code Volatile = 2
 qualifier_code Restrict = 3
 
--- what a token is, as a number
-abbrev pub code_of : TokenKind → ℕ
-code_of End = 0
-code_of (Qualifier q) = qualifier_code q
-code_of Tag = 4
-code_of Void = 5
-code_of Word = 6
-code_of (Count n) = 7
-code_of (Mark b) = 16 + b
+-- a word that is no qualifier
+abbrev pub is_word_kind : TokenKind → Bool
+is_word_kind End = false
+is_word_kind (Qualifier q) = false
+is_word_kind Tag = true
+is_word_kind Void = true
+is_word_kind Word = true
+is_word_kind (Count n) = false
+is_word_kind (Mark b) = false
 
--- the next token as a number; 0 where there is none
-abbrev pub sign_of : {W : Type 0} → List (Token W) → ℕ
-sign_of ts = code_of (next_kind ts)
+-- the mark of that byte
+abbrev pub is_mark_kind : ℕ → TokenKind → Bool
+is_mark_kind m End = false
+is_mark_kind m (Qualifier q) = false
+is_mark_kind m Tag = false
+is_mark_kind m Void = false
+is_mark_kind m Word = false
+is_mark_kind m (Count n) = false
+is_mark_kind m (Mark b) = eqb b m
 
 -- the place of the next word, or another one
 abbrev pub token_span : Token Span → Span → Span

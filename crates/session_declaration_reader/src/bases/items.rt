@@ -45,12 +45,12 @@ impl Entry {
     }
 }
 
-// Stores three words as entry n, if it is one of 512 and there is room. 513 stands for all that are too many, as C is told.
+// Stores three words as entry n, if it is one of 512 and there is room. One more stands for all that are too many, as C is told.
 fn put_item(chain: &mut [u64], n: u32, kind: u64, x: u64, y: u64) -> u32
     ensures { placed result chain.new ≡ placing chain.old n (item kind x y ∷ []) }
 {
     if limit::MOST_CALLS <= n {
-        return 513;
+        return limit::MOST_CALLS + 1;
     }
     let i = (n as usize) * 3;
     if chain.len() <= i + 2 {
@@ -62,6 +62,8 @@ fn put_item(chain: &mut [u64], n: u32, kind: u64, x: u64, y: u64) -> u32
     n + 1
 }
 
+// The words and the number of entries are two parameters: a struct that held the lent words would owe, in each function of the
+// grammar, a clause that it keeps them.
 pub fn put_entry(chain: &mut [u64], n: u32, entry: Entry) -> u32
     ensures { placed result chain.new ≡ placing chain.old n (item_of entry ∷ []) }
 {
