@@ -5,6 +5,10 @@ use mathlib.Core.Path.{◌≡◌, refl, ap, sym, ◌∙◌}
 use mathlib.Core.List.{List, [], ◌∷◌, ◌++◌}
 use borrow.Author.Tests.{lt-ltb, le-ltb}
 use lib.ListN.{length, set}
+use native.Mathlib.Omega.{arith}
+use lib.Seq.{paste, paste-zero, paste-suc}
+use borrow.Rule.Slice.PartMut.{put_mid}
+use Rattle.std.proofs.lemmas.Slice.{put_mid-paste}
 use lib.Dec.{ltb}
 use Rattle.spec_c_dumper.specs.rules.Types.{Qualifier}
 use Rattle.session_declaration_reader.specs.bases.Items.{Item, item, qual_code, qual_items, Placed, placed, put_item, one_more, placing}
@@ -51,6 +55,16 @@ module _ (t : List ℕ) (n k x y : ℕ) where
       let e : put_item t n (item k x y) ≡ set (set (set t (n * 3) k) (n * 3 + 1) x) (n * 3 + 2) y =
       passed (ltb n 512) _ t (lt-ltb n 512 h) ∙ passed (ltb (n * 3 + 2) (length t)) (set (set (set t (n * 3) k) (n * 3 + 1) x) (n * 3 + 2) y) t (lt-ltb (n * 3 + 2) (length t) l) in
       sym (λ i. placed (more_is h i) (e i))
+
+-- three words written over a part are three words stored
+pub three : (t : List ℕ) (at m k x y : ℕ) (s : List ℕ) → at + 2 < length t → m ≡ 3 → s ≡ (k ∷ x ∷ y ∷ []) → put_mid at m t s ≡ set (set (set t at k) (at + 1) x) (at + 2) y
+three t at m k x y s h e p =
+    let l : List ℕ = k ∷ x ∷ y ∷ [] in
+    let e0 : at + 0 ≡ at = omega arith in
+    let s1 : set t at k ≡ paste t at l 1 = ap (λ (i : ℕ). set t i k) (sym e0) ∙ ap (λ (c : List ℕ). set c (at + 0) k) (paste-zero t at l) ∙ paste-suc t at l 0 0 (omega arith) (omega arith) in
+    let s2 : set (paste t at l 1) (at + 1) x ≡ paste t at l 2 = paste-suc t at l 1 0 (omega arith) (omega arith) in
+    let s3 : set (paste t at l 2) (at + 2) y ≡ paste t at l 3 = paste-suc t at l 2 0 (omega arith) (omega arith) in
+    put_mid-paste at m t s l 3 p (sym e) refl ∙ sym (rw (s1, s2) s3)
 
 -- qualifiers
 pub code_is : (q : declared.Qualifier) → qual_code (qualifier q) ≡ qualifier_code q

@@ -53,12 +53,10 @@ fn put_item(chain: &mut [u64], n: u32, kind: u64, x: u64, y: u64) -> u32
         return limit::MOST_CALLS + 1;
     }
     let i = (n as usize) * 3;
-    if chain.len() <= i + 2 {
+    if chain.len() < i + 3 {
         return n + 1;
     }
-    chain[i] = kind;
-    chain[i + 1] = x;
-    chain[i + 2] = y;
+    chain[i..i + 3].copy_from_slice(&[kind, x, y]);
     n + 1
 }
 
