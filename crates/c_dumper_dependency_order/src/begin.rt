@@ -4,7 +4,7 @@ ghost use Rattle.c_dumper_dependency_order.specs.order_state.Work.{table_in};
 ghost use Rattle.c_dumper_dependency_order.specs.begin.Start.{limit_by, opened_by, is_known, is_passable, met_by};
 
 use crate::order_state::{Order, is_ordered, refused, strong};
-use base_bytes::refusal;
+use base_bytes::refusal::Refusal;
 use btf_type_table::table::Table;
 use spec_type_table::Kind;
 
@@ -23,7 +23,7 @@ pub fn count_call(is_set: bool, calls: u64, o: Order) -> Order
         return o;
     }
     if calls <= o.made {
-        return refused(o, refusal::CEILING_PASSED);
+        return refused(o, Refusal::CeilingPassed);
     }
     Order {
         made: o.made + 1,
@@ -44,14 +44,14 @@ pub fn meet(b: &Table, work: &[u8], o: Order, id: u32, has_ptr: bool) -> Order
     ensures { result ≡ met_by (is_passable (table_in b.now.head b.now.section.now work.now) id has_ptr) o }
 {
     if !has_ptr {
-        return refused(o, refusal::CYCLE);
+        return refused(o, Refusal::Cycle);
     }
     let t = b.type_by_id(work, id);
     if !b.is_named(t) {
-        return refused(o, refusal::CYCLE);
+        return refused(o, Refusal::Cycle);
     }
     match Kind::of(t.info) {
         Kind::Struct | Kind::Union => strong(o, false),
-        _ => refused(o, refusal::CYCLE),
+        _ => refused(o, Refusal::Cycle),
     }
 }

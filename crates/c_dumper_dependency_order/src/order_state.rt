@@ -2,7 +2,9 @@
 ghost use Rattle.std.specs.Prelude.{◌≡◌, eqb};
 ghost use Rattle.spec_type_table.specs.Cells.{get_field, put_field};
 ghost use Rattle.c_dumper_dependency_order.specs.order_state.Work.{mark_is, mark_of, code, strong_of, refused_by};
+ghost use Rattle.spec_bytes.specs.Refusals.{refusal_number};
 
+use base_bytes::refusal::Refusal;
 use btf_type_table::cell;
 use btf_type_table::cell::{get_field, put_field};
 
@@ -90,11 +92,11 @@ pub fn strong(o: Order, is_strong: bool) -> Order
     Order { is_strong, ..o }
 }
 
-pub fn refused(o: Order, c: u32) -> Order
-    ensures { result ≡ refused_by o c }
+pub fn refused(o: Order, c: Refusal) -> Order
+    ensures { result ≡ refused_by o (refusal_number c) }
 {
     Order {
-        stop: c,
+        stop: u32::from(c),
         is_strong: false,
         ..o
     }

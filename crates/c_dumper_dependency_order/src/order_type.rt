@@ -13,7 +13,7 @@ use crate::finish::{finish, finish_typedef};
 use crate::leaders::{Way, inside};
 use crate::order_state::{Mark, Order, get_mark, refused, set_mark, strong};
 use crate::ways::{is_passed, is_weak_past};
-use base_bytes::refusal;
+use base_bytes::refusal::Refusal;
 use btf_type_table::table::Table;
 use spec_type_table::{Entries, Node};
 
@@ -39,7 +39,7 @@ pub fn order_type(
         return o;
     }
     if left == 0 {
-        return refused(o, refusal::TOO_DEEP);
+        return refused(o, Refusal::TooDeep);
     }
     let p = count_call(is_set, calls, o);
     if p.stop != 0 {

@@ -3,7 +3,7 @@
 ghost use Rattle.std.specs.Prelude.{◌≡◌, not, ◌&&◌};
 ghost use Rattle.c_dumper_dependency_order.specs.ways.Idle.{idle_in};
 
-use base_bytes::refusal;
+use base_bytes::refusal::Refusal;
 use spec_type_table::TypeTable;
 
 // The way past an array or a qualifier is weak if the way to it was; with strong arrays, passing an array forgets that.
@@ -28,12 +28,13 @@ pub struct Idle {
 }
 
 // A request under a ceiling, after so many calls, that has nothing to do: it opens one.
+#[tactic(auto, unfolding(crate::specs::ways::Idle::idle_in))]
 pub fn count_idle(made: u64, ceiling: u64) -> Idle
     ensures { result ≡ idle_in made ceiling }
 {
     if ceiling <= made {
         return Idle {
-            number: refusal::CEILING_PASSED,
+            number: u32::from(Refusal::CeilingPassed),
             made: made,
         };
     }

@@ -6,19 +6,19 @@ ghost use Rattle.session_cut_marks.specs.tags.Tags.{some_number, tag_on, tagged_
 use crate::peek::peek;
 use base_bytes::limit;
 use btf_open_causes::references::{count, entry, kind_at};
-use btf_type_table::kind;
 use btf_type_table::table::Table;
+use spec_type_table::Kind;
 
 // What the DECL_TAG x is on, where that is neither void nor a DECL_TAG.
 fn tag_on(b: &Table, start: &[u32], x: u32) -> Option<u32>
     ensures { result ≡ some_number (tag_on b.now.head b.now.section.now start.now x) }
 {
     let e = entry(b.head, start, x);
-    if e % 32 != kind::DECL_TAG {
+    if Kind::numbered(e % 32) != Kind::DeclTag {
         return None;
     }
     let t = b.word(((e / 32) as usize) + 8);
-    let is_tag = kind_at(b.head, start, t) == kind::DECL_TAG;
+    let is_tag = Kind::numbered(kind_at(b.head, start, t)) == Kind::DeclTag;
     if is_tag {
         return None;
     }

@@ -6,8 +6,9 @@ ghost use Rattle.spec_session.specs.calls.Lists.{count_in, tailed, list_end};
 ghost use Rattle.session_record.specs.arrival.Arrival.{clipped, arrived_in};
 
 use crate::settle::{answer_of, clear_from, with_text};
+use base_bytes::limit;
+use base_bytes::refusal::Refusal;
 use base_bytes::word::clear;
-use base_bytes::{limit, refusal};
 use spec_session::session::{Reached, Session, Tally, Turn};
 
 // How far a text slice may be written after its first bytes: 1,073,741,824 bytes at most. No min of the lengths says it: what is
@@ -81,7 +82,7 @@ pub fn settle_list(s: Session, work: &mut [u8], text: &mut [u8], r: Tally) -> Tu
 {
     let len = r.len;
     let answer = answer_of(r.number, r.accepted);
-    if r.number <= refusal::NO_SUCH_ID {
+    if r.number <= u32::from(Refusal::NoSuchId) {
         clear_after(text, r.accepted, len);
         return Turn {
             session: with_text(s, true, len, r.visits),

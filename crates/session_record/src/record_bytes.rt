@@ -5,7 +5,7 @@ ghost use Rattle.session_record.specs.record_words.Words.{packed};
 ghost use Rattle.session_record.specs.record_bytes.Record.{record_opened, record_refused, record_after, record_longer, record_listed};
 
 use crate::record_words::{encode, number_and_value, put_reached, shut};
-use base_bytes::refusal;
+use base_bytes::refusal::Refusal;
 use spec_session::session::{Answer, Turn};
 
 // Opening writes the record whole, and a refused opening leaves it.
@@ -36,10 +36,11 @@ fn store(record: &mut [u8], t: Turn)
     }
 }
 
+#[tactic(auto, unfolding(crate::specs::record_bytes::Record::record_refused))]
 fn store_refused(record: &mut [u8], number: u32, len: u32, visits: u32)
     ensures { «record».new ≡ record_refused number len visits «record».old }
 {
-    let is_kept = number < refusal::TOO_DEEP;
+    let is_kept = number < u32::from(Refusal::TooDeep);
     if is_kept {
         return;
     }
@@ -72,7 +73,7 @@ fn store_longer(record: &mut [u8], accepted: u32, len: u32, visits: u32)
 fn store_stopped(record: &mut [u8], number: u32, accepted: u32, len: u32, visits: u32)
     ensures { «record».new ≡ record_listed number accepted len visits «record».old }
 {
-    if number > refusal::SESSION_CLOSED {
+    if number > u32::from(Refusal::SessionClosed) {
         store_refused(record, number, len, visits);
         return;
     }

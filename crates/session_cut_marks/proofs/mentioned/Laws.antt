@@ -15,7 +15,6 @@ use Rattle.spec_type_table.specs.declared.types.TypeTable.{TypeTable}
 use Rattle.spec_type_table.specs.Names.{up_to_zero, name_at, str_at}
 use Rattle.btf_open_causes.specs.references.Followed.{entry_at}
 use Rattle.session_cut_marks.specs.roles.Words.{role, words_in, word_of}
-use Rattle.session_cut_marks.proofs.roles.Laws.{get_past}
 use Rattle.session_cut_marks.specs.mentioned.Names.{is_name, or_name, named_to, first_from, mentions, or_mentions, mentioned_to, is_new}
 
 pub flip_true : (q : Bool) → not q ≡ true → q ≡ false
