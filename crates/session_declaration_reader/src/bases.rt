@@ -121,7 +121,7 @@ fn base_word(text: &[u8], at: usize, named: bool) -> Option<Tok>
     Some(t)
 }
 
-// Where the words of the base end. `while`, as in `no_tags`: where a word starts is known only when the one before has been read.
+// Where the words of the base end. (`while`: where a word starts is known only when the one before has been read.)
 fn after_words(text: &[u8], at: usize, named: bool) -> usize
     ensures { AfterWords text.now at named result }
 {
@@ -132,7 +132,7 @@ fn after_words(text: &[u8], at: usize, named: bool) -> usize
     i
 }
 
-// Whether none of the words of a base is struct, union or enum.
+// Whether none of the words of a base is struct, union or enum. (`while`, as in after_words.)
 fn no_tags(text: &[u8], at: usize, named: bool) -> bool
     ensures { result ≡ no_tags (word_run named (tokens_at text.now at)) }
 {
