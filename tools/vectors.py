@@ -311,7 +311,7 @@ unfolding {names}
 """
 
 READING = """-- Written by tools/vectors.py. The types that the bytes of a section spell, record after record, each read as the table of spec_type_table reads it.
-use Rattle.std.specs.Prelude.{ℕ, zero, suc, ◌+◌, ◌*◌, ◌-◌, true, false, List, [], ◌∷◌, length, ltb, leb}
+use Rattle.std.specs.Prelude.{ℕ, zero, suc, ◌+◌, ◌*◌, ◌-◌, true, false, List, [], ◌∷◌, length, ltb, leb, Some, None}
 use Prim.Native.String.{String}
 use Rattle.spec_bytes.specs.text.Text.{ascii}
 use Rattle.spec_linux_btf.specs.Section.{is_big_endian, word_of}
@@ -319,7 +319,6 @@ use Rattle.spec_c_dumper.specs.rules.Types.{BtfType, Void}
 use Rattle.spec_c_dumper.specs.rules.Listed.{listed}
 use Rattle.spec_c_dumper.specs.needs.Session.{program}
 use Rattle.spec_type_table.specs.declared.types.TypeTable.{TypeTable}
-use Rattle.spec_type_table.specs.declared.types.Extra.TheVariants.{Bytes, Refused}
 use Rattle.spec_type_table.specs.Records.{vlen_of, kind_of, extra_of, record_at}
 use Rattle.spec_type_table.specs.Table.{type_of}
 
@@ -340,7 +339,7 @@ types_from b s end (suc n) at =
     let r = record_at b s at in
     elim (ltb at end) [
       | false ↦ []
-      | true ↦ elim (extra_of (kind_of r.info) (vlen_of r.info)) [ Bytes k ↦ type_of b s r ∷ types_from b s end n (at + 12 + k) | Refused ↦ [] ]
+      | true ↦ elim (extra_of (kind_of r.info) (vlen_of r.info)) [ Some k ↦ type_of b s r ∷ types_from b s end n (at + 12 + k) | None ↦ [] ]
     ]
 
 -- struct btf_header: hdr_len at 4, type_off at 8, type_len at 12, str_off at 16

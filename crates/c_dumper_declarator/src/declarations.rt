@@ -325,7 +325,8 @@ fn emit_composite_word(
     ensures { out_of result text.new work.new
         ≡ put_said text.old at (word_below (work_asks b.now.head.types (btf_of b.now.head b.now.section.now work.old))
         (work_naming b.now.head) (btf_of b.now.head b.now.section.now work.old) below lvl id
-        (Composite (eqb (kind_of t.info) 4) (record_name b.now.head b.now.section.now t) t.type_id (members_of b.now.head b.now.section.now t))
+        (Composite (eqb (kind_of t.info) 4) (record_name b.now.head b.now.section.now t) t.type_id
+        (members_of b.now.head b.now.section.now t))
         work.old) }
 {
     if b.is_empty(t.name_off) {

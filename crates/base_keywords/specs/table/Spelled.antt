@@ -2,7 +2,10 @@
 use Rattle.std.specs.Prelude.{ℕ, List}
 use Rattle.spec_bytes.specs.text.Text.{ascii}
 use Rattle.base_keywords.specs.declared.table.Word.{Word}
-use Rattle.base_keywords.specs.declared.table.Word.TheVariants.{Struct, Union, StructForUnion, Enum, Typedef, Void, Volatile, Const, Restrict, Long, Int, Short, Char, AttributeStart, Packed, DeclTag, TypeTag, Ull, Ll, MinusOne, Underscores, Dots}
+use Rattle.base_keywords.specs.declared.table.Word.TheVariants.{Struct, Union, StructForUnion, Enum, Typedef, Void}
+use Rattle.base_keywords.specs.declared.table.Word.TheVariants.{Volatile, Const, Restrict, Long, Int}
+use Rattle.base_keywords.specs.declared.table.Word.TheVariants.{Short, Char, AttributeStart, Packed, DeclTag, TypeTag}
+use Rattle.base_keywords.specs.declared.table.Word.TheVariants.{Ull, Ll, MinusOne, Underscores, Dots}
 
 abbrev pub spelled : Word → List ℕ
 spelled Struct = ascii "struct"

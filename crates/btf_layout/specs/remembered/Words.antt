@@ -85,7 +85,9 @@ once_with types B left id w = forget (align_once (work_keep types B) left B id w
 -- the same of a type of which nothing is remembered, with so many calls below it
 unfoldable pub anew_with : ℕ → Rules → ℕ → ℕ → List ℕ → Once (List ℕ) Remembered
 anew_with types B left id w =
-    forget (once_then (type_once B (λ t m k. align_once (work_keep types B) left B t m k) (B.type_by_id id) w 1) (keep_once (work_keep types B) id))
+    forget
+    (once_then (type_once B (λ t m k. align_once (work_keep types B) left B t m k) (B.type_by_id id) w 1)
+    (keep_once (work_keep types B) id))
 
 -- members_once of the members' types alone
 unfoldable pub ids_once : {M : Type 0} → (ℕ → Asking M Remembered) → Remembered → List ℕ → Asking M Remembered

@@ -1,6 +1,7 @@
 -- What the walk of cause 8 keeps: st has 0 for a new node, k + 1 for one on the walk whose first k successors are passed, and 131072
 -- for a safe one; the stack is the walk, d its length.
-use Rattle.std.specs.Prelude.{ℕ, suc, ◌+◌, ◌-◌, ◌≤◌, ◌<◌, ◌≡◌, Bool, true, false, List, MatchBool, Option, MatchOption, length, get_or, sum_by}
+use Rattle.std.specs.Prelude.{ℕ, suc, ◌+◌, ◌-◌, ◌≤◌, ◌<◌, ◌≡◌, Bool, true}
+use Rattle.std.specs.Prelude.{false, List, MatchBool, Option, MatchOption, length, get_or, sum_by}
 use Rattle.btf_open_causes.specs.references.Zeros.{zeros}
 use Rattle.btf_open_causes.specs.loops.Graph.{Graph, Edge, Loop}
 

@@ -42,7 +42,8 @@ pub fn emit_enum_word(
 ) -> usize
     ensures { out_of result text.new work.new
         ≡ put_said text.old at (enum_text (work_naming b.now.head) (btf_of b.now.head b.now.section.now work.old)
-        (value_text (is_wide t) (flag_of t.info)) id (record_name b.now.head b.now.section.now t) (enum_values b.now.head b.now.section.now t) lvl
+        (value_text (is_wide t) (flag_of t.info)) id (record_name b.now.head b.now.section.now t)
+        (enum_values b.now.head b.now.section.now t) lvl
         work.old) }
 {
     if b.is_empty(t.name_off) {

@@ -1,5 +1,6 @@
 -- What is written: the header, the words of the kept records, each name or id replaced, and the new names.
-use Rattle.std.specs.Prelude.{ℕ, zero, suc, ◌+◌, ◌*◌, ◌%◌, ◌/◌, ◌≡◌, Option, Some, None, Bool, true, false, List, [], ◌∷◌, ◌++◌, length, get_or, drop, ltb, eqb}
+use Rattle.std.specs.Prelude.{ℕ, zero, suc, ◌+◌, ◌*◌, ◌%◌, ◌/◌, ◌≡◌, Option, Some, None, Bool}
+use Rattle.std.specs.Prelude.{true, false, List, [], ◌∷◌, ◌++◌, length, get_or, drop, ltb, eqb}
 use Rattle.spec_c_dumper.specs.rules.Types.{is_empty}
 use Rattle.spec_type_table.specs.declared.types.TypeTable.{TypeTable}
 use Rattle.spec_type_table.specs.Names.{str_at}
@@ -72,7 +73,8 @@ sought b s t e j = elim (eqb (role (e % 32) j) 1) [
 ]
 
 -- what the mention of word j of type x says, where the strings before it have the length `len`
-pub record Mentions (b : TypeTable) (s start ids bases : List ℕ) (x e j len : ℕ) (word : ℕ) (place : Option ℕ) (new : Bool) (before : ℕ) : Type 0 where
+pub record Mentions (b : TypeTable) (s start ids bases : List ℕ) (x e j len : ℕ) (word : ℕ) (place : Option ℕ) (new : Bool)
+    (before : ℕ) : Type 0 where
   pub same_word : word ≡ j
   pub same_length : before ≡ len
   pub first : new ≡ is_new b s start ids x e j

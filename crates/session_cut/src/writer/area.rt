@@ -57,7 +57,8 @@ impl Source<'_> {
     }
 
     fn put_news(&self, out: &mut [u8], at: usize) -> usize
-        ensures { put_out result out.new ≡ put_text out.old at (whole (at_kept news_bytes self.now.kept (type_count self.now.kept.table.head))) }
+        ensures { put_out result out.new
+            ≡ put_text out.old at (whole (at_kept news_bytes self.now.kept (type_count self.now.kept.table.head))) }
     {
         let mut p = at;
         for x in 0..count(self.kept.table.head) {

@@ -85,9 +85,11 @@ impl Source<'_> {
     // Word m of the record with entry e, as it is written.
     fn new_word(&self, e: u32, m: Mention) -> u32
         requires { ((p : ℕ) → m.place ≡ Some p
-            → p ≡ at_kept place_of self.now.kept self.now.bases.now (word_of self.now.kept.table.head self.now.kept.table.section.now e m.j))
+            → p ≡ at_kept place_of self.now.kept self.now.bases.now
+            (word_of self.now.kept.table.head self.now.kept.table.section.now e m.j))
             × (m.new ≡ true
-            → m.len ≡ at_kept place_of self.now.kept self.now.bases.now (word_of self.now.kept.table.head self.now.kept.table.section.now e m.j)) }
+            → m.len ≡ at_kept place_of self.now.kept self.now.bases.now
+            (word_of self.now.kept.table.head self.now.kept.table.section.now e m.j)) }
         ensures { result ≡ at_kept new_word self.now.kept self.now.bases.now e m.j }
     {
         let w = word_of(&self.kept.table, e, m.j);
@@ -104,7 +106,8 @@ impl Source<'_> {
             × (t.base ≡ at_kept base_of self.now.kept t.x) }
         ensures { put_out result out.new
             ≡ put_text out.old at
-            (whole (at_kept record_bytes self.now.kept self.now.bases.now t.e (words_in self.now.kept.table.head self.now.kept.table.section.now t.e))) }
+            (whole (at_kept record_bytes self.now.kept self.now.bases.now t.e
+            (words_in self.now.kept.table.head self.now.kept.table.section.now t.e))) }
     {
         let mut p = at;
         let mut len = t.base;

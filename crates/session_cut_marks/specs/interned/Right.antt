@@ -25,7 +25,10 @@ Right-prop b s start ids t p q i = record {
   short = le_prop p.short q.short i;
   small = le_prop p.small q.small i;
   long = Coded-set coded_ℕ (length t) 262144 p.long q.long i;
-  places = λ k n off e. Coded-set coded_ℕ (place_of b s start ids (all_bases b s start ids) off) (get_or t k 0 / 4294967296) (p.places k n off e) (q.places k n off e) i;
+  places =
+      λ k n off e.
+      Coded-set coded_ℕ (place_of b s start ids (all_bases b s start ids) off) (get_or t k 0 / 4294967296)
+      (p.places k n off e) (q.places k n off e) i;
 }
 
 -- a type that is kept, and its entry

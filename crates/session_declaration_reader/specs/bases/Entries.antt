@@ -3,7 +3,8 @@ use Rattle.std.specs.Prelude.{ℕ, Bool, true, false}
 use Rattle.session_declaration_reader.specs.bases.Items.{Item, item}
 use Rattle.session_declaration_reader.specs.tokens.Looking.{qualifier_code}
 use Rattle.session_declaration_reader.specs.declared.bases.items.Entry.{Entry}
-use Rattle.session_declaration_reader.specs.declared.bases.items.Entry.TheVariants.{Base, Pointer, Array, Prototype, Qualifier, FollowedBase}
+use Rattle.session_declaration_reader.specs.declared.bases.items.Entry.TheVariants.{Base, Pointer, Array}
+use Rattle.session_declaration_reader.specs.declared.bases.items.Entry.TheVariants.{Prototype, Qualifier, FollowedBase}
 
 abbrev pub any_code : Bool → ℕ
 any_code true = 1

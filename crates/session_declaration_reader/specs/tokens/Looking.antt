@@ -1,5 +1,6 @@
 -- What the code sees of the tokens at a place of the text.
-use Rattle.std.specs.Prelude.{ℕ, Bool, Option, Some, None, ◌+◌, ◌-◌, ◌≤◌, ◌<◌, ◌≡◌, List, [], ◌∷◌, true, false, eqb, length, get_or, take, drop}
+use Rattle.std.specs.Prelude.{ℕ, Bool, Option, Some, None, ◌+◌, ◌-◌, ◌≤◌, ◌<◌, ◌≡◌}
+use Rattle.std.specs.Prelude.{List, [], ◌∷◌, true, false, eqb, length, get_or, take, drop}
 use Rattle.spec_c_dumper.specs.rules.Types as rules
 use Rattle.spec_c_dumper.specs.rules.Types.{volatile, const, restrict}
 use Rattle.session_declaration_reader.specs.tokens.Tokens.{tag_word, void_word, other_word, Token, qual, word, number, mark, rest}
