@@ -4,7 +4,8 @@
   tools/names.py              checks the documents
   tools/names.py --comments   checks the comments of the sources too
 
-Documents are README.md, docs/, and the README of bench/, oracle/ and tests/, but not docs/PORT.md, which quotes names that were.
+Documents are README.md, docs/, and the README of bench/, oracle/ and tests/, but not docs/PORT.md and
+docs/DESIGN-PASS.md, which quote names that were.
 What stands in a block of code is not looked at.
 
 - A path, given from the root or from the document's folder, exists.
@@ -38,6 +39,7 @@ def documents():
     found = ["README.md", "bench/README.md", "oracle/README.md", "tests/README.md"]
     found += [os.path.relpath(p, ROOT) for p in glob.glob(os.path.join(ROOT, "docs/**/*.md"), recursive=True)]
     found.remove("docs/PORT.md")
+    found.remove("docs/DESIGN-PASS.md")
     return sorted(found)
 
 

@@ -4,45 +4,6 @@ ghost use Rattle.spec_type_table.specs.Records.{vlen_of, kind_of, flag_of, membe
 
 use spec_type_table::{BtfType, Entries, Kind};
 
-// The kinds of a type; 0 is void.
-pub const INT: u32 = 1;
-
-pub const PTR: u32 = 2;
-
-pub const ARRAY: u32 = 3;
-
-pub const STRUCT: u32 = 4;
-
-pub const UNION: u32 = 5;
-
-pub const ENUM: u32 = 6;
-
-pub const FWD: u32 = 7;
-
-pub const TYPEDEF: u32 = 8;
-
-pub const VOLATILE: u32 = 9;
-
-pub const CONST: u32 = 10;
-
-pub const RESTRICT: u32 = 11;
-
-pub const FUNC: u32 = 12;
-
-pub const FUNC_PROTO: u32 = 13;
-
-pub const VAR: u32 = 14;
-
-pub const DATASEC: u32 = 15;
-
-pub const FLOAT: u32 = 16;
-
-pub const DECL_TAG: u32 = 17;
-
-pub const TYPE_TAG: u32 = 18;
-
-pub const ENUM64: u32 = 19;
-
 // btf_type.info: bits 0-15 vlen, 24-28 kind, 31 kind_flag.
 pub fn vlen_of(info: u32) -> u32
     ensures { result ≡ vlen_of info }
