@@ -15,7 +15,7 @@ ghost use Rattle.session_requests.specs.options.Lists.{cleared_if, list_after, e
 use crate::options::{Ended, Options, Progress, Tallied};
 use crate::request::{dump_next, dump_one};
 use base_bytes::limit;
-use base_bytes::refusal::{NO_SUCH_ID, Refusal};
+use base_bytes::refusal::Refusal;
 use base_bytes::word::{clear, get_word};
 use btf_open_causes::header::btf_of;
 use btf_type_table::table::Table;
@@ -175,7 +175,7 @@ fn clear_after(list: &mut [u8], r: Tallied)
     requires { r.count ≤ entries_in list.old }
     ensures { list.new ≡ list_after r list.old }
 {
-    if r.tally.number <= NO_SUCH_ID {
+    if r.tally.number <= u32::from(Refusal::NoSuchId) {
         if r.tally.accepted == 0 {
             return;
         }
