@@ -12,10 +12,11 @@ import subprocess
 import sys
 
 HERE = os.path.join(os.path.dirname(os.path.abspath(__file__)), "..")
-# Byte strings beside the table, by their files: a word that is compared and never written, tables of digits, and what the
-# programs say of themselves.
+# Byte strings beside the table, by their files: a word that is compared and never written, the escapes of a C string, tables of
+# digits, and what the programs say of themselves.
 OTHERS = {
     "btf_type_table/src/name.rt": [rb"__builtin_va_list"],
+    "btf_type_table/src/escape.rt": [rb'\\[\\"nrt]'],
     "session_cut_marks/src/roles.rt": [rb"[0-9]+"],
     "btfdump_run/src/printed.rt": [rb"refused ", rb"\n"],
     "btfdump_replay/src/main.rt": [rb"\.btf", rb"\.out", rb" differs\n", rb" sections, ", rb" differ\n", rb"names", rb""],
