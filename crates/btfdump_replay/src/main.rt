@@ -52,11 +52,12 @@ fn try_all<R: Files + Print>(rt: &R, names: &str) -> io::Result<()> {
     println!(rt; "{count} sections, {differ} differ")
 }
 
-fn main(rt: HostRuntime) -> io::Result<()> {
+fn main(rt: HostRuntime) {
     let mut buf = [0u8; MOST];
     let names = read_file(&rt, "names", "", &mut buf).and_then(|bytes| str::from_utf8(bytes).ok());
-    match names {
+    // A write that fails ends the program quietly; a list that is missing is one that differs.
+    let _ = match names {
         Some(names) => try_all(&rt, names),
-        None => Err(io::Error::from(io::ErrorKind::NotFound)),
-    }
+        None => println!(rt; "names differs\n1 sections, 1 differ"),
+    };
 }
