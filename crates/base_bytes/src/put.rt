@@ -2,5 +2,5 @@
 mod bytes;
 mod decimal;
 
-pub use crate::put::bytes::{put_byte, put_bytes, put_tabs, put_three, put_two, stop, stopped};
+pub use crate::put::bytes::{put_byte, put_bytes, put_tabs};
 pub use crate::put::decimal::put_decimal;

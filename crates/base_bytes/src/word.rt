@@ -5,8 +5,6 @@ ghost use Rattle.std.specs.Prelude.{◌≡◌, ◌+◌, ◌*◌, ◌-◌, ◌<�
 ghost use Rattle.spec_bytes.specs.words.Words.{get_word, put_word, word_at, join_at, turn, word_in};
 ghost use Rattle.spec_bytes.specs.words.Three.{three_at, three_in};
 
-use spec_bytes::words::Three;
-
 // The number whose bytes start at `at`.
 fn join_at(b: &[u8], at: usize) -> u32
     requires { at + 3 < length b.now }
@@ -65,50 +63,34 @@ pub fn word_in(big: bool, b: &[u8], at: usize) -> u32
 }
 
 // The three words whose bytes start at `at`, `at + 4` and `at + 8`: all at once where they lie inside, else each by itself.
-pub fn three_at(b: &[u8], at: usize) -> Three
+pub fn three_at(b: &[u8], at: usize) -> [u32; 3]
     ensures { result ≡ three_at b.now at }
 {
     if at < b.len().saturating_sub(11) {
-        return Three {
-            first: join_at(b, at),
-            second: join_at(b, at + 4),
-            third: join_at(b, at + 8),
-        };
+        return [join_at(b, at), join_at(b, at + 4), join_at(b, at + 8)];
     }
     three_apart(b, at)
 }
 
 // The same, each by itself. (A slice has fewer bytes than 2^63, so the places past an `at` inside it do not wrap.)
-fn three_apart(b: &[u8], at: usize) -> Three
+fn three_apart(b: &[u8], at: usize) -> [u32; 3]
     ensures { result ≡ three_at b.now at }
 {
     if b.len() <= at {
-        return Three {
-            first: 0,
-            second: 0,
-            third: 0,
-        };
+        return [0; 3];
     }
-    Three {
-        first: word_at(b, at),
-        second: word_at(b, at + 4),
-        third: word_at(b, at + 8),
-    }
+    [word_at(b, at), word_at(b, at + 4), word_at(b, at + 8)]
 }
 
 // The three words at once, most significant byte first if `big`.
-pub fn three_in(big: bool, b: &[u8], at: usize) -> Three
+pub fn three_in(big: bool, b: &[u8], at: usize) -> [u32; 3]
     ensures { result ≡ three_in big b.now at }
 {
-    let w = three_at(b, at);
+    let [x, y, z] = three_at(b, at);
     if big {
-        return Three {
-            first: turned(w.first),
-            second: turned(w.second),
-            third: turned(w.third),
-        };
+        return [turned(x), turned(y), turned(z)];
     }
-    w
+    [x, y, z]
 }
 
 // Sets every byte to 0.

@@ -1,12 +1,13 @@
 // The fixed words of the text. Each stands once, in the table of put_fixed: lines are assembled from it, and what is read is
-// compared with it. Signs are put as characters.
-ghost use Rattle.std.specs.Prelude.{◌≡◌, ◌+◌, ◌≤◌, length};
-ghost use Rattle.spec_bytes.specs.text.Text.{ascii, whole, put_out, put_text};
+// compared with it. Signs are no words: they stand where they are put.
+ghost use Rattle.std.specs.Prelude.{◌≡◌, ◌+◌, ◌≤◌, length, Ok};
+ghost use Rattle.spec_bytes.specs.text.Text.{ascii, whole};
+ghost use Rattle.spec_bytes.specs.text.Placed.{put_out, put_text};
 ghost use Rattle.spec_c_dumper.specs.rules.Names.{same_bytes};
 ghost use Rattle.base_keywords.specs.table.Fixed.{table, part, copied};
 ghost use Rattle.base_keywords.specs.table.Spelled.{spelled};
 
-use base_bytes::refusal;
+use base_bytes::refusal::Refusal;
 
 #[derive(Clone, Copy)]
 pub enum Word {
@@ -98,25 +99,28 @@ fn copy_word(text: &mut [u8], at: usize, src: &[u8], start: usize, n: usize)
 }
 
 // Writes n bytes of src.
-fn put_part(text: &mut [u8], at: usize, src: &[u8], start: usize, n: usize) -> usize
+fn put_part(
+    text: &mut [u8],
+    at: usize,
+    src: &[u8],
+    start: usize,
+    n: usize,
+) -> Result<usize, Refusal>
     requires { (2 ≤ n) × (n ≤ 16) × (start + n ≤ length src.now) }
-    ensures { put_out result text.new ≡ put_text text.old at (whole (part src.now start n)) }
+    ensures { put_out result text.new ≡ put_text text.old (Ok at) (whole (part src.now start n)) }
 {
-    if text.len() < at {
-        return at;
-    }
-    if text.len() - at < n {
-        return text.len() + refusal::FULL_PLACE;
+    if text.len().saturating_sub(at) < n {
+        return Err(Refusal::TextFull);
     }
     copy_word(text, at, src, start, n);
-    at + n
+    Ok(at + n)
 }
 
 // The table. The compiler does not write this function out at each call, so that the table stands once in the machine's code too.
 #[inline(never)]
-fn put_fixed(text: &mut [u8], at: usize, start: usize, n: usize) -> usize
+fn put_fixed(text: &mut [u8], at: usize, start: usize, n: usize) -> Result<usize, Refusal>
     requires { (2 ≤ n) × (n ≤ 16) × (start + n ≤ 128) }
-    ensures { put_out result text.new ≡ put_text text.old at (whole (part table start n)) }
+    ensures { put_out result text.new ≡ put_text text.old (Ok at) (whole (part table start n)) }
 {
     put_part(
         text,
@@ -127,8 +131,8 @@ fn put_fixed(text: &mut [u8], at: usize, start: usize, n: usize) -> usize
     )
 }
 
-pub fn put_word(text: &mut [u8], at: usize, word: Word) -> usize
-    ensures { put_out result text.new ≡ put_text text.old at (whole (spelled word)) }
+pub fn put_word(text: &mut [u8], at: usize, word: Word) -> Result<usize, Refusal>
+    ensures { put_out result text.new ≡ put_text text.old (Ok at) (whole (spelled word)) }
 {
     let (start, n) = word.place();
     put_fixed(text, at, start, n)
@@ -143,7 +147,7 @@ fn is_fixed(run: &[u8], start: usize, n: usize) -> bool
         return false;
     }
     let mut word: [u8; 16] = [0; 16];
-    put_fixed(&mut word, 0, start, n);
+    let _ = put_fixed(&mut word, 0, start, n);
     run == &word[..n]
 }
 

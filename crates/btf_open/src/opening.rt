@@ -4,10 +4,11 @@ ghost use Rattle.spec_opening.specs.Opened.{open_out, opening_of};
 
 use crate::causes::examine;
 use base_bytes::limit;
+use base_bytes::refusal::Refusal;
 use base_bytes::word::clear;
 use btf_open_causes::header::btf_of;
+use btf_open_causes::records::Counts;
 use btf_type_table::table::Table;
-use spec_opening::Opening;
 
 // Opens a section. A refusal leaves work and text as they were.
 pub fn open(
@@ -16,21 +17,17 @@ pub fn open(
     modes: u32,
     work: &mut [u8],
     text: &mut [u8],
-) -> Opening
+) -> Result<Counts, Refusal>
     ensures { open_out result work.new text.new
         ≡ opening_of pointer_size modes section.now work.old text.old }
 {
     let mut start = [0u32; limit::TYPES_LEN];
-    match examine(section, pointer_size, work.len(), &mut start) {
-        Err(refusal) => Opening::Refused(u32::from(refusal)),
-        Ok(counts) => {
-            clear(text);
-            clear(work);
-            let head = btf_of(section, pointer_size, modes, counts.types);
-            let b = Table { head, section };
-            btf_open_names::fill::fill(&b, counts.enumerators, &start, work);
-            btf_open_names::taken_numbers::takers(&b, modes, counts.enumerators, work);
-            Opening::Sound(counts.types, counts.enumerators)
-        }
-    }
+    let counts = examine(section, pointer_size, work.len(), &mut start)?;
+    clear(text);
+    clear(work);
+    let head = btf_of(section, pointer_size, modes, counts.types);
+    let b = Table { head, section };
+    btf_open_names::fill::fill(&b, counts.enumerators, &start, work);
+    btf_open_names::taken_numbers::takers(&b, modes, counts.enumerators, work);
+    Ok(counts)
 }

@@ -6,6 +6,7 @@ ghost use Rattle.spec_linux_btf.specs.Places.{all_named_p};
 ghost use Rattle.btf_open_causes.specs.records.Pass.{entry_width, named_by, enums_of, next_p, scan_out, scan_p, scan_section};
 
 use crate::header::btf_header;
+use base_bytes::element::store;
 use base_bytes::limit;
 use btf_type_table::kind::{extra_of, kind_of, vlen_of};
 use btf_type_table::table::Table;
@@ -84,14 +85,11 @@ fn enumerators_of(info: u32) -> u32
     }
 }
 
-// Puts the place and the kind of a record into the index: place * 32 + kind.
-fn put_start(start: &mut [u32], x: u32, at: u32, kind: u32)
-    ensures { start.new ≡ set start.old x (at % 134217728 * 32 + kind % 32) }
+// Where a record is and its kind, as the index has it: place * 32 + kind.
+fn entry_of(at: u32, kind: u32) -> u32
+    ensures { result ≡ at % 134217728 * 32 + kind % 32 }
 {
-    let i = x as usize;
-    if i < start.len() {
-        start[i] = at % 134217728 * 32 + kind % 32;
-    }
+    at % 134217728 * 32 + kind % 32
 }
 
 // The type area from a place to its end. (A `while`: the record says where the next one stands.)
@@ -108,7 +106,7 @@ fn scan_area(b: &Table, from: u32, end: u32, str_len: u32, start: &mut [u32]) ->
             return None;
         }
         let info = b.word((at as usize) + 4);
-        put_start(start, x, at, kind_of(info));
+        store(start, x as usize, entry_of(at, kind_of(info)));
         let next = next_record(b, at, info, end, str_len)?;
         enumerators += enumerators_of(info);
         at = next;

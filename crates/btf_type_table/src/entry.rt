@@ -12,19 +12,19 @@ impl Table<'_> {
     pub fn load_member(&self, t: BtfType, k: u32) -> BtfMember
         ensures { result ≡ member_of self.now.head self.now.section.now t k }
     {
-        let w = self.three(member_place(entries_of(t), k));
+        let [name_off, type_id, offset] = self.three(member_place(entries_of(t), k));
         if kind_flag_of(t.info) {
             return BtfMember {
-                name_off: w.first,
-                type_id: w.second,
-                bit_offset: w.third % 16777216,
-                bit_size: w.third / 16777216,
+                name_off,
+                type_id,
+                bit_offset: offset % 16777216,
+                bit_size: offset / 16777216,
             };
         }
         BtfMember {
-            name_off: w.first,
-            type_id: w.second,
-            bit_offset: w.third,
+            name_off,
+            type_id,
+            bit_offset: offset,
             bit_size: 0,
         }
     }
@@ -41,7 +41,7 @@ impl Table<'_> {
         ensures { result ≡ section_word self.now.head self.now.section.now (member_at e.at k + 8) * 4294967296
             + section_word self.now.head self.now.section.now (member_at e.at k + 4) }
     {
-        let w = self.three(member_place(e, k));
-        (w.third as u64) * limit::TWO_TO_32 + (w.second as u64)
+        let [_, low, high] = self.three(member_place(e, k));
+        (high as u64) * limit::TWO_TO_32 + (low as u64)
     }
 }

@@ -1,6 +1,7 @@
 // Names in the string area: the bytes from a place up to the first 0.
-ghost use Rattle.std.specs.Prelude.{◌≡◌, ◌≤◌, ◌-◌, length, take, drop};
-ghost use Rattle.spec_bytes.specs.text.Text.{whole, put_out, put_text};
+ghost use Rattle.std.specs.Prelude.{◌≡◌, ◌≤◌, ◌-◌, length, take, drop, Ok};
+ghost use Rattle.spec_bytes.specs.text.Text.{whole};
+ghost use Rattle.spec_bytes.specs.text.Placed.{put_out, put_text};
 ghost use Rattle.spec_c_dumper.specs.rules.Types.{is_empty, is_named};
 ghost use Rattle.spec_c_dumper.specs.rules.Names as rules;
 ghost use Rattle.spec_c_dumper.specs.rules.Names.{starts_with, builtin};
@@ -8,7 +9,8 @@ ghost use Rattle.spec_type_table.specs.Names.{name_at, name_place, str_at};
 ghost use Rattle.spec_type_table.specs.Table.{type_of};
 
 use crate::table::Table;
-use base_bytes::refusal;
+use base_bytes::put::put_bytes;
+use base_bytes::refusal::Refusal;
 use spec_type_table::{BtfType, Kind};
 
 // The compiler's own type.
@@ -32,26 +34,11 @@ impl<'a> Table<'a> {
         &rest[..len]
     }
 
-    // Writes the name at an offset, in one pass.
-    pub fn put_str(&self, text: &mut [u8], at: usize, off: u32) -> usize
-        ensures { put_out result text.new ≡ put_text text.old at (whole (str_at self.now.head self.now.section.now off)) }
+    // Writes the name at an offset.
+    pub fn put_str(&self, text: &mut [u8], at: usize, off: u32) -> Result<usize, Refusal>
+        ensures { put_out result text.new ≡ put_text text.old (Ok at) (whole (str_at self.now.head self.now.section.now off)) }
     {
-        if text.len() < at {
-            return at;
-        }
-        let mut p = at;
-        for &c in self.from_name(off) {
-            let is_end = c == 0;
-            if is_end {
-                return p;
-            }
-            if text.len() <= p {
-                return text.len() + refusal::FULL_PLACE;
-            }
-            text[p] = c;
-            p += 1;
-        }
-        p
+        put_bytes(text, at, self.get_btf_str(off))
     }
 
     #[tactic(auto, using(spec_type_table::proofs::NameLaws::empty_first, std::proofs::lemmas::Bool::Decides::nat_tests))]

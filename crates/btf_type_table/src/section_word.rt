@@ -5,7 +5,6 @@ ghost use Rattle.spec_type_table.specs.Table.{extra_word, nelems_word};
 
 use crate::table::Table;
 use base_bytes::word::{three_in, word_in};
-use spec_bytes::words::Three;
 use spec_type_table::BtfType;
 
 impl Table<'_> {
@@ -17,7 +16,7 @@ impl Table<'_> {
     }
 
     // Three words of the section from a place on.
-    pub fn three(&self, at: usize) -> Three
+    pub fn three(&self, at: usize) -> [u32; 3]
         ensures { result ≡ section_three self.now.head self.now.section.now at }
     {
         three_in(self.head.big_endian, self.section, at)
@@ -27,12 +26,12 @@ impl Table<'_> {
     pub fn load_type(&self, at: u32) -> BtfType
         ensures { result ≡ record_at self.now.head self.now.section.now at }
     {
-        let w = self.three(at as usize);
+        let [name_off, info, type_id] = self.three(at as usize);
         BtfType {
-            at: at,
-            name_off: w.first,
-            info: w.second,
-            type_id: w.third,
+            at,
+            name_off,
+            info,
+            type_id,
         }
     }
 

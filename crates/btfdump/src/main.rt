@@ -8,7 +8,8 @@ fn main(rt: HostRuntime) {
     let n = read_full(&mut rt.stdin(), &mut section);
     let mut work = [0u8; 65536];
     let mut text = [0u8; 65536];
-    let len = btfdump_run::program::run(&section[..n], &mut work, &mut text);
-    // A write that fails ends the program quietly.
-    let _ = write_first(&mut rt.stdout(), &text, len);
+    if let Some(len) = btfdump_run::program::run(&section[..n], &mut work, &mut text) {
+        // A write that fails ends the program quietly.
+        let _ = write_first(&mut rt.stdout(), &text, len);
+    }
 }

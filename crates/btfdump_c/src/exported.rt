@@ -14,11 +14,11 @@ ghost use Rattle.spec_c_calls.specs.Field.{path_export_of, field_export};
 use session_field_at_bit::field::which_field;
 use session_record::record_bytes::{answered, listed, opened};
 use session_record::record_words::{
-    ANSWER_CLOSED, ANSWER_SHORT_SLICE, RECORD_BYTES, decode, number_and_value,
+    ANSWER_CLOSED, ANSWER_SHORT_SLICE, RECORD_BYTES, decode, number_or_value,
 };
 use session_requests::open_call::open_core;
-use session_requests::options::Options;
-use session_requests::requests::{request_list, request_type, request_types};
+use session_requests::options::{Options, Wanted};
+use session_requests::requests::request;
 
 #[unsafe(no_mangle)]
 pub extern "C" fn btfdump_open(
@@ -54,7 +54,8 @@ pub extern "C" fn btfdump_dump_type(
         return ANSWER_CLOSED;
     }
     let s = decode(record);
-    let d = request_type(s, section, work, text, &mut [0u8; 0], id, Options::Plain);
+    let o = Options::Plain;
+    let d = request(s, section, work, text, &mut [0u8; 0], Wanted::One(id), o);
     answered(record, d.turn)
 }
 
@@ -72,7 +73,8 @@ pub extern "C" fn btfdump_dump_types(
         return ANSWER_CLOSED;
     }
     let s = decode(record);
-    let d = request_types(s, section, work, text, &mut [0u8; 0], Options::Plain);
+    let o = Options::Plain;
+    let d = request(s, section, work, text, &mut [0u8; 0], Wanted::All, o);
     answered(record, d.turn)
 }
 
@@ -94,7 +96,8 @@ pub extern "C" fn btfdump_dump_list(
         return ANSWER_CLOSED;
     }
     let s = decode(record);
-    let d = request_list(s, section, work, text, &mut [0u8; 0], ids, Options::Plain);
+    let o = Options::Plain;
+    let d = request(s, section, work, text, &mut [0u8; 0], Wanted::Ids(ids), o);
     listed(record, d.turn)
 }
 
@@ -114,5 +117,5 @@ pub extern "C" fn btfdump_field(
         return ANSWER_CLOSED;
     }
     let a = which_field(decode(record), section, work, path, id, bit);
-    number_and_value(a)
+    number_or_value(a)
 }

@@ -19,8 +19,8 @@ fn read_file<'a, R: Files>(
     buf: &'a mut [u8],
 ) -> Option<&'a [u8]> {
     let mut path = [0u8; 128];
-    let a = put_bytes(&mut path, 0, name.as_bytes());
-    let n = put_bytes(&mut path, a, ending.as_bytes());
+    let at = put_bytes(&mut path, 0, name.as_bytes()).ok()?;
+    let n = put_bytes(&mut path, at, ending.as_bytes()).ok()?;
     let mut file = File::open(rt, str::from_utf8(path.get(..n)?).ok()?).ok()?;
     let len = read_full(&mut file, buf);
     Some(&buf[..len])
@@ -34,7 +34,7 @@ fn holds<R: Files>(rt: &R, name: &str) -> Option<bool> {
     let mut text = [0u8; MOST];
     let section = read_file(rt, name, ".btf", &mut section)?;
     let expected = read_file(rt, name, ".out", &mut expected)?;
-    let len = btfdump_run::program::run(section, &mut work, &mut text);
+    let len = btfdump_run::program::run(section, &mut work, &mut text)?;
     Some(text.get(..len)? == expected)
 }
 

@@ -5,9 +5,9 @@ ghost use Rattle.btfdump_run.specs.printed.Printed.{never_opened, ran_to, ran_al
 
 use crate::printed::put_refused;
 use session_requests::open_call::open_core;
-use session_requests::options::Options;
-use session_requests::requests::request_types;
-use spec_session::session::{Answer, Session};
+use session_requests::options::{Options, Wanted};
+use session_requests::requests::request;
+use spec_session::session::Session;
 
 fn closed() -> Session
     ensures { result ≡ never_opened }
@@ -25,27 +25,26 @@ fn closed() -> Session
     }
 }
 
-// Leaves what is printed at the start of the text: how long it is.
-pub fn run(section: &[u8], work: &mut [u8], text: &mut [u8]) -> usize
+// Leaves what is printed at the start of the text: how long it is, if it fits.
+pub fn run(section: &[u8], work: &mut [u8], text: &mut [u8]) -> Option<usize>
     ensures { ran_to result text.new work.new
         ≡ ran_on section.now work.old text.old }
 {
     let opened = open_core(closed(), section, work, text, 8, 0);
-    let answer = opened.answer;
-    match answer {
-        Answer::Refused(number, _) => put_refused(text, number),
-        Answer::Accepted(_) => run_all(opened.session, section, work, text),
+    match opened.answer {
+        Ok(_) => run_all(opened.session, section, work, text),
+        Err(r) => put_refused(text, r.refusal),
     }
 }
 
-fn run_all(s: Session, section: &[u8], work: &mut [u8], text: &mut [u8]) -> usize
+fn run_all(s: Session, section: &[u8], work: &mut [u8], text: &mut [u8]) -> Option<usize>
     ensures { ran_to result text.new work.new
         ≡ ran_all (types_call s section.now work.old text.old) }
 {
-    let d = request_types(s, section, work, text, &mut [0u8; 0], Options::Plain);
-    let answer = d.turn.answer;
-    match answer {
-        Answer::Refused(number, _) => put_refused(text, number),
-        Answer::Accepted(len) => len as usize,
+    let o = Options::Plain;
+    let d = request(s, section, work, text, &mut [0u8; 0], Wanted::All, o);
+    match d.turn.answer {
+        Ok(len) => Some(len as usize),
+        Err(r) => put_refused(text, r.refusal),
     }
 }

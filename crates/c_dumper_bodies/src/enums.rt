@@ -1,6 +1,7 @@
 // Enums: the values of an ENUM64 are of 64 bits, those of an ENUM of 32.
-ghost use Rattle.std.specs.Prelude.{◌≡◌};
-ghost use Rattle.spec_bytes.specs.text.Text.{whole, put_out, put_text};
+ghost use Rattle.std.specs.Prelude.{◌≡◌, Ok};
+ghost use Rattle.spec_bytes.specs.text.Text.{whole};
+ghost use Rattle.spec_bytes.specs.text.Placed.{put_out, put_text};
 ghost use Rattle.spec_c_dumper.specs.rules.Place.{out_of, put_said};
 ghost use Rattle.spec_c_dumper.specs.rules.Decl.{enum_value, enum64_value, emit_values, emit_enum_def};
 ghost use Rattle.spec_type_table.specs.Names.{str_at};
@@ -9,7 +10,8 @@ ghost use Rattle.spec_type_table.specs.Table.{btf_of, work_naming};
 ghost use Rattle.c_dumper_bodies.specs.enums.Widths.{is_wide, value_size, value_text, enumerator_at, enum_values};
 
 use crate::enumerators::{deeper, emit_enum_end, emit_enum_head, emit_enumerator};
-use base_bytes::put::{put_byte, put_decimal, put_two};
+use base_bytes::put::{put_byte, put_bytes, put_decimal};
+use base_bytes::refusal::Refusal;
 use base_keywords::signed_decimal::{as_i32, as_i64, put_i32, put_i64};
 use base_keywords::table::{Word, put_word};
 use btf_type_table::cell;
@@ -34,8 +36,8 @@ fn value_size(wide: bool) -> usize
 }
 
 // value_str of an ENUM.
-fn put_value(text: &mut [u8], at: usize, is_signed: bool, v: u32) -> usize
-    ensures { put_out result text.new ≡ put_text text.old at (whole (enum_value is_signed v)) }
+fn put_value(text: &mut [u8], at: usize, is_signed: bool, v: u32) -> Result<usize, Refusal>
+    ensures { put_out result text.new ≡ put_text text.old (Ok at) (whole (enum_value is_signed v)) }
 {
     if is_signed {
         return put_i32(text, at, as_i32(v));
@@ -43,14 +45,14 @@ fn put_value(text: &mut [u8], at: usize, is_signed: bool, v: u32) -> usize
     put_decimal(text, at, v as u64)
 }
 
-// value_str of an ENUM64, with the suffix of its type.
-fn put_value64(text: &mut [u8], at: usize, is_signed: bool, v: u64) -> usize
-    ensures { put_out result text.new ≡ put_text text.old at (whole (enum64_value is_signed v)) }
+// value_str of an ENUM64, with the suffix of its type. (A function of its own: another width, other conversions, a suffix.)
+fn put_value64(text: &mut [u8], at: usize, is_signed: bool, v: u64) -> Result<usize, Refusal>
+    ensures { put_out result text.new ≡ put_text text.old (Ok at) (whole (enum64_value is_signed v)) }
 {
     if is_signed {
         return put_i64(text, at, as_i64(v));
     }
-    let a = put_decimal(text, at, v);
+    let a = put_decimal(text, at, v)?;
     put_word(text, a, Word::Ull)
 }
 
@@ -63,9 +65,9 @@ fn emit_value(
     is_signed: bool,
     values: Entries,
     k: u32,
-) -> usize
+) -> Result<usize, Refusal>
     ensures { put_out result text.new
-        ≡ put_text text.old at (whole (value_text wide is_signed
+        ≡ put_text text.old (Ok at) (whole (value_text wide is_signed
         (enumerator_at wide b.now.head b.now.section.now values.at k).value)) }
 {
     if wide {
@@ -84,9 +86,9 @@ fn emit_values(
     id: u32,
     t: BtfType,
     lvl: u32,
-) -> usize
+) -> Result<usize, Refusal>
     ensures { out_of result text.new work.new
-        ≡ put_said text.old at (emit_values (work_naming b.now.head) (btf_of b.now.head b.now.section.now work.old)
+        ≡ put_said text.old (Ok at) (emit_values (work_naming b.now.head) (btf_of b.now.head b.now.section.now work.old)
         (value_text (is_wide t) (flag_of t.info)) id lvl 0 (enum_values b.now.head b.now.section.now t) work.old) }
 {
     let values = entries_of(t);
@@ -99,12 +101,12 @@ fn emit_values(
     for k in 0..values.vlen {
         let name_off = b.word(place);
         let e = first.saturating_add(k);
-        let a = emit_enumerator(b, work, text, p, e, name_off, lvl);
-        let c = emit_value(b, text, a, wide, is_signed, values, k);
-        p = put_byte(text, c, b',');
+        let a = emit_enumerator(b, work, text, p, e, name_off, lvl)?;
+        let c = emit_value(b, text, a, wide, is_signed, values, k)?;
+        p = put_byte(text, c, b',')?;
         place += size;
     }
-    p
+    Ok(p)
 }
 
 pub fn emit_enum_def(
@@ -115,21 +117,21 @@ pub fn emit_enum_def(
     id: u32,
     t: BtfType,
     lvl: u32,
-) -> usize
+) -> Result<usize, Refusal>
     ensures { out_of result text.new work.new
-        ≡ put_said text.old at (emit_enum_def (work_naming b.now.head) (btf_of b.now.head b.now.section.now work.old)
+        ≡ put_said text.old (Ok at) (emit_enum_def (work_naming b.now.head) (btf_of b.now.head b.now.section.now work.old)
         (value_text (is_wide t) (flag_of t.info)) id (str_at b.now.head b.now.section.now t.name_off)
         (enum_values b.now.head b.now.section.now t) lvl work.old) }
 {
     if b.is_builtin(t.name_off) {
-        return at;
+        return Ok(at);
     }
-    let a = emit_enum_head(b, work, text, at, id, t.name_off);
+    let a = emit_enum_head(b, work, text, at, id, t.name_off)?;
     let values = entries_of(t);
     if values.vlen == 0 {
-        return a;
+        return Ok(a);
     }
-    let c = put_two(text, a, b' ', b'{');
-    let d = emit_values(b, work, text, c, id, t, deeper(lvl));
+    let c = put_bytes(text, a, b" {")?;
+    let d = emit_values(b, work, text, c, id, t, deeper(lvl))?;
     emit_enum_end(text, d, lvl)
 }

@@ -1,17 +1,19 @@
 // Qualifiers on top of a chain.
-ghost use Rattle.std.specs.Prelude.{◌≡◌, ◌≤◌};
-ghost use Rattle.spec_bytes.specs.text.Text.{whole, put_out, put_text};
+ghost use Rattle.std.specs.Prelude.{◌≡◌, ◌≤◌, Ok};
+ghost use Rattle.spec_bytes.specs.text.Text.{whole};
+ghost use Rattle.spec_bytes.specs.text.Placed.{put_out, put_text};
 ghost use Rattle.spec_c_dumper.specs.rules.Decl.{qualifier};
 ghost use Rattle.c_dumper_bodies.specs.chain.Chains.{qualifier_of, skipped, mods_down};
 
 use crate::chain::{is_qualifier, kind_at};
 use base_bytes::put::put_byte;
+use base_bytes::refusal::Refusal;
 use base_keywords::table::{Word, put_word};
 use btf_type_table::table::Table;
 use spec_type_table::Kind;
 
-pub fn put_qualifier(text: &mut [u8], at: usize, kind: Kind) -> usize
-    ensures { put_out result text.new ≡ put_text text.old at (whole (qualifier (qualifier_of kind))) }
+pub fn put_qualifier(text: &mut [u8], at: usize, kind: Kind) -> Result<usize, Refusal>
+    ensures { put_out result text.new ≡ put_text text.old (Ok at) (whole (qualifier (qualifier_of kind))) }
 {
     match kind {
         Kind::Volatile => put_word(text, at, Word::Volatile),
@@ -41,14 +43,14 @@ pub fn emit_mods(
     start: u32,
     n: u32,
     m: u32,
-) -> usize
+) -> Result<usize, Refusal>
     ensures { put_out result text.new
-        ≡ put_text text.old at (whole (mods_down b.now.head b.now.section.now work.now start m n)) }
+        ≡ put_text text.old (Ok at) (whole (mods_down b.now.head b.now.section.now work.now start m n)) }
 {
     let mut p = at;
     for k in (m..n).rev() {
-        let a = put_qualifier(text, p, kind_at(b, work, start, k));
-        p = put_byte(text, a, b' ');
+        let a = put_qualifier(text, p, kind_at(b, work, start, k))?;
+        p = put_byte(text, a, b' ')?;
     }
-    p
+    Ok(p)
 }

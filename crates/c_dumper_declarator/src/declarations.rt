@@ -2,8 +2,8 @@
 // emit_type_decl, emit_based, emit_type_chain and emit_composite_def may be open; `below` is that for the calls within one of them.
 mod members;
 
-ghost use Rattle.spec_bytes.specs.text.Text.{cut, put_out, put_text};
-ghost use Rattle.std.specs.Prelude.{[], ◌≡◌, true, false, ◌≤◌, ◌<◌, ◌-◌, ◌+◌, eqb, leb, ◌∷◌};
+ghost use Rattle.spec_bytes.specs.text.Placed.{placed};
+ghost use Rattle.std.specs.Prelude.{[], ◌≡◌, true, false, ◌≤◌, ◌<◌, ◌-◌, ◌+◌, eqb, leb, ◌∷◌, Ok, IfOk};
 ghost use Rattle.spec_c_dumper.specs.rules.Writer.{put, ◌⨾◌};
 ghost use Rattle.spec_c_dumper.specs.rules.Types.{Composite};
 ghost use Rattle.spec_c_dumper.specs.rules.Decl.{base, mods, no_mods, shown_params};
@@ -20,7 +20,7 @@ ghost use Rattle.c_dumper_declarator.specs.declarations.Rests.{RestIs};
 ghost use Rattle.c_dumper_bodies.specs.bodies.Pieces.{param_list_below, entry_text, chain_rest, param_text};
 
 pub use crate::declarations::members::emit_composite_def;
-use base_bytes::put::{put_byte, put_two, stop, stopped};
+use base_bytes::put::{put_byte, put_bytes};
 use base_bytes::refusal::Refusal;
 use base_keywords::table::{Word, put_word};
 use btf_type_table::kind::{entries_of, is_struct, kind_flag_of, param_place};
@@ -57,13 +57,6 @@ struct Stand {
     rest: Option<Rest>,
 }
 
-// Too many calls are open, or a chain has too many entries.
-fn too_deep(text: &[u8], at: usize) -> usize
-    ensures { put_out result text.now ≡ put_text text.now at (cut [] 12) }
-{
-    stop(text, at, u32::from(Refusal::TooDeep))
-}
-
 #[cycle(declarator)]
 pub fn emit_type_decl(
     b: &Table,
@@ -72,22 +65,17 @@ pub fn emit_type_decl(
     at: usize,
     d: Declarator,
     left: u32,
-) -> usize
+) -> Result<usize, Refusal>
     ensures { out_of result text.new work.new
-        ≡ put_said text.old at (emit_type_decl_once (work_asks b.now.head.types (btf_of b.now.head b.now.section.now work.old))
+        ≡ put_said text.old (Ok at) (emit_type_decl_once (work_asks b.now.head.types (btf_of b.now.head b.now.section.now work.old))
         (work_naming b.now.head) (btf_of b.now.head b.now.section.now work.old) left d.id (name_text b.now.head b.now.section.now d.name)
         d.lvl work.old) }
 {
     if left == 0 {
-        return too_deep(text, at);
+        return Err(Refusal::TooDeep);
     }
-    if stopped(text, at) {
-        return at;
-    }
-    match chain_base(b, work, d.id) {
-        Some(x) => emit_based(b, work, text, at, d, x, left - 1),
-        None => too_deep(text, at),
-    }
+    let x = chain_base(b, work, d.id).ok_or(Refusal::TooDeep)?;
+    emit_based(b, work, text, at, d, x, left - 1)
 }
 
 // A chain with its base on top. Most have nothing else, and then the name follows.
@@ -100,28 +88,25 @@ fn emit_based(
     d: Declarator,
     x: Base,
     left: u32,
-) -> usize
+) -> Result<usize, Refusal>
     requires { (x.t ≡ record_by_id b.now.head b.now.section.now work.old x.id)
         × (only_links (chain_at b.now.head b.now.section.now work.old d.id x.n) ≡ true) }
     ensures { out_of result text.new work.new
-        ≡ put_said text.old at (emit_type_chain_once (work_asks b.now.head.types (btf_of b.now.head b.now.section.now work.old))
+        ≡ put_said text.old (Ok at) (emit_type_chain_once (work_asks b.now.head.types (btf_of b.now.head b.now.section.now work.old))
         (work_naming b.now.head) (btf_of b.now.head b.now.section.now work.old) left
         (base x.id ∷ chain_at b.now.head b.now.section.now work.old d.id x.n) (name_text b.now.head b.now.section.now d.name)
         d.lvl work.old) }
 {
     if left == 0 {
-        return too_deep(text, at);
+        return Err(Refusal::TooDeep);
     }
     let below = left - 1;
     let m = skip_mods(b, work, d.id, x.n);
-    let a = emit_mods(b, work, text, at, d.id, x.n, m);
-    let e = emit_base(b, work, text, a, x.id, x.t, d.lvl, below);
+    let a = emit_mods(b, work, text, at, d.id, x.n, m)?;
+    let e = emit_base(b, work, text, a, x.id, x.t, d.lvl, below)?;
     if m == 0 {
         let name = d.name;
         return emit_name(b, text, e, name, false);
-    }
-    if stopped(text, e) {
-        return e;
     }
     emit_links(b, work, text, e, d, m, false, below)
 }
@@ -136,19 +121,16 @@ fn emit_type_chain(
     d: Declarator,
     n: u32,
     left: u32,
-) -> usize
+) -> Result<usize, Refusal>
     requires { only_links (chain_at b.now.head b.now.section.now work.old d.id n) ≡ true }
     ensures { out_of result text.new work.new
-        ≡ put_said text.old at (emit_type_chain_once (work_asks b.now.head.types (btf_of b.now.head b.now.section.now work.old))
+        ≡ put_said text.old (Ok at) (emit_type_chain_once (work_asks b.now.head.types (btf_of b.now.head b.now.section.now work.old))
         (work_naming b.now.head) (btf_of b.now.head b.now.section.now work.old) left
         (chain_at b.now.head b.now.section.now work.old d.id n) (name_text b.now.head b.now.section.now d.name) d.lvl
         work.old) }
 {
     if left == 0 {
-        return too_deep(text, at);
-    }
-    if stopped(text, at) {
-        return at;
+        return Err(Refusal::TooDeep);
     }
     emit_links(b, work, text, at, d, n, true, left - 1)
 }
@@ -164,10 +146,10 @@ fn emit_links(
     n: u32,
     last_was_ptr: bool,
     below: u32,
-) -> usize
+) -> Result<usize, Refusal>
     requires { only_links (chain_at b.now.head b.now.section.now work.old d.id n) ≡ true }
     ensures { out_of result text.new work.new
-        ≡ put_said text.old at (chain_rest (work_asks b.now.head.types (btf_of b.now.head b.now.section.now work.old))
+        ≡ put_said text.old (Ok at) (chain_rest (work_asks b.now.head.types (btf_of b.now.head b.now.section.now work.old))
         (work_naming b.now.head) (btf_of b.now.head b.now.section.now work.old) below (name_text b.now.head b.now.section.now d.name) d.lvl
         false last_was_ptr (chain_at b.now.head b.now.section.now work.old d.id n) work.old) }
 {
@@ -175,14 +157,11 @@ fn emit_links(
     let mut c = Rest { n, last_was_ptr };
     // A `while`: an entry says how many are left, since a function or an array takes some with it.
     while 0 < c.n {
-        let e = emit_entry(b, work, text, p, c, d, below);
+        let e = emit_entry(b, work, text, p, c, d, below)?;
         p = e.at;
         let Some(rest) = e.rest else {
-            return p;
+            return Ok(p);
         };
-        if stopped(text, p) {
-            return p;
-        }
         c = rest;
     }
     let name = d.name;
@@ -216,35 +195,44 @@ fn emit_entry(
     c: Rest,
     d: Declarator,
     below: u32,
-) -> Stand
+) -> Result<Stand, Refusal>
     requires { (0 < c.n) × (only_links (chain_at b.now.head b.now.section.now work.old d.id c.n) ≡ true) }
-    ensures { (out_of result.at text.new work.new
-        ≡ put_said text.old at
+    ensures { (out_of (placed (λ s. s.at) result) text.new work.new
+        ≡ put_said text.old (Ok at)
         (entry_text (work_asks b.now.head.types (btf_of b.now.head b.now.section.now work.old)) (work_naming b.now.head)
         (btf_of b.now.head b.now.section.now work.old) below (name_text b.now.head b.now.section.now d.name) d.lvl
         c.last_was_ptr (chain_at b.now.head b.now.section.now work.old d.id c.n) work.old))
-        × RestIs (chain_at b.now.head b.now.section.now work.old d.id) c.n result.rest }
+        × IfOk result (λ s. RestIs (chain_at b.now.head b.now.section.now work.old d.id) c.n s.rest) }
 {
     let n = c.n - 1;
     let t = b.type_by_id(work, path_at(b, work, d.id, n));
     let kind = Kind::of(t.info);
     match kind {
-        Kind::Ptr => goes_on(put_star(text, at, c.last_was_ptr), n, true),
+        Kind::Ptr => {
+            let a = put_star(text, at, c.last_was_ptr)?;
+            Ok(goes_on(a, n, true))
+        }
         Kind::Array => {
             let nelems = b.array_nelems(t);
             let m = skip_mods(b, work, d.id, n);
-            let a = emit_array(b, work, text, at, d, m, c.last_was_ptr, below);
-            named(put_count(text, a, nelems))
+            let a = emit_array(b, work, text, at, d, m, c.last_was_ptr, below)?;
+            let e = put_count(text, a, nelems)?;
+            Ok(named(e))
         }
         Kind::Volatile | Kind::Const | Kind::Restrict => {
-            let a = put_byte(text, at, b' ');
-            goes_on(put_qualifier(text, a, kind), n, false)
+            let a = put_byte(text, at, b' ')?;
+            let e = put_qualifier(text, a, kind)?;
+            Ok(goes_on(e, n, false))
         }
-        Kind::FuncProto => named(emit_function(b, work, text, at, c, d, t, below)),
+        Kind::FuncProto => {
+            let a = emit_function(b, work, text, at, c, d, t, below)?;
+            Ok(named(a))
+        }
         _ => {
             let m = skip_mods(b, work, d.id, n);
-            let a = emit_mods(b, work, text, at, d.id, n, m);
-            goes_on(put_type_tag(b, text, a, t), m, false)
+            let a = emit_mods(b, work, text, at, d.id, n, m)?;
+            let e = put_type_tag(b, text, a, t)?;
+            Ok(goes_on(e, m, false))
         }
     }
 }
@@ -260,10 +248,10 @@ fn emit_function(
     d: Declarator,
     t: BtfType,
     below: u32,
-) -> usize
+) -> Result<usize, Refusal>
     requires { (0 < c.n) × (only_links (chain_at b.now.head b.now.section.now work.old d.id c.n) ≡ true) }
     ensures { out_of result text.new work.new
-        ≡ put_said text.old at
+        ≡ put_said text.old (Ok at)
         ((put (mods (chain_at b.now.head b.now.section.now work.old d.id (c.n - 1)))
         ⨾ proto_below (work_asks b.now.head.types (btf_of b.now.head b.now.section.now work.old)) (work_naming b.now.head)
         (btf_of b.now.head b.now.section.now work.old) below (name_text b.now.head b.now.section.now d.name) d.lvl
@@ -274,8 +262,8 @@ fn emit_function(
 {
     let n = c.n - 1;
     let m = skip_mods(b, work, d.id, n);
-    let a = emit_mods(b, work, text, at, d.id, n, m);
-    let f = emit_proto(b, work, text, a, d, m, c.last_was_ptr, below);
+    let a = emit_mods(b, work, text, at, d.id, n, m)?;
+    let f = emit_proto(b, work, text, a, d, m, c.last_was_ptr, below)?;
     emit_params(b, work, text, f, entries_of(t), d.lvl, below)
 }
 
@@ -290,9 +278,9 @@ fn emit_base(
     t: BtfType,
     lvl: u32,
     below: u32,
-) -> usize
+) -> Result<usize, Refusal>
     ensures { out_of result text.new work.new
-        ≡ put_said text.old at (word_below (work_asks b.now.head.types (btf_of b.now.head b.now.section.now work.old))
+        ≡ put_said text.old (Ok at) (word_below (work_asks b.now.head.types (btf_of b.now.head b.now.section.now work.old))
         (work_naming b.now.head) (btf_of b.now.head b.now.section.now work.old) below lvl id (type_of b.now.head b.now.section.now t)
         work.old) }
 {
@@ -306,7 +294,7 @@ fn emit_base(
         }
         Kind::Typedef => put_typedef_name(b, work, text, at, id, t.name_off),
         Kind::Void | Kind::Unknown => put_word(text, at, Word::Void),
-        _ => at,
+        _ => Ok(at),
     }
 }
 
@@ -321,9 +309,9 @@ fn emit_composite_word(
     t: BtfType,
     lvl: u32,
     below: u32,
-) -> usize
+) -> Result<usize, Refusal>
     ensures { out_of result text.new work.new
-        ≡ put_said text.old at (word_below (work_asks b.now.head.types (btf_of b.now.head b.now.section.now work.old))
+        ≡ put_said text.old (Ok at) (word_below (work_asks b.now.head.types (btf_of b.now.head b.now.section.now work.old))
         (work_naming b.now.head) (btf_of b.now.head b.now.section.now work.old) below lvl id
         (Composite (eqb (kind_of t.info) 4) (record_name b.now.head b.now.section.now t) t.type_id
         (members_of b.now.head b.now.section.now t))
@@ -346,10 +334,10 @@ fn emit_array(
     n: u32,
     last_was_ptr: bool,
     below: u32,
-) -> usize
+) -> Result<usize, Refusal>
     requires { only_links (chain_at b.now.head b.now.section.now work.old d.id n) ≡ true }
     ensures { out_of result text.new work.new
-        ≡ put_said text.old at (array_below (work_asks b.now.head.types (btf_of b.now.head b.now.section.now work.old))
+        ≡ put_said text.old (Ok at) (array_below (work_asks b.now.head.types (btf_of b.now.head b.now.section.now work.old))
         (work_naming b.now.head) (btf_of b.now.head b.now.section.now work.old) below (name_text b.now.head b.now.section.now d.name) d.lvl
         last_was_ptr (chain_at b.now.head b.now.section.now work.old d.id n) work.old) }
 {
@@ -357,12 +345,12 @@ fn emit_array(
     if n == 0 {
         return emit_name(b, text, at, name, last_was_ptr);
     }
-    let a = put_gap(b, text, at, name, last_was_ptr);
+    let a = put_gap(b, text, at, name, last_was_ptr)?;
     match kind_at(b, work, d.id, n - 1) {
         Kind::Array => emit_type_chain(b, work, text, a, d, n, below),
         _ => {
-            let c = put_byte(text, a, b'(');
-            let e = emit_type_chain(b, work, text, c, d, n, below);
+            let c = put_byte(text, a, b'(')?;
+            let e = emit_type_chain(b, work, text, c, d, n, below)?;
             put_byte(text, e, b')')
         }
     }
@@ -379,10 +367,10 @@ fn emit_proto(
     n: u32,
     last_was_ptr: bool,
     below: u32,
-) -> usize
+) -> Result<usize, Refusal>
     requires { only_links (chain_at b.now.head b.now.section.now work.old d.id n) ≡ true }
     ensures { out_of result text.new work.new
-        ≡ put_said text.old at (proto_below (work_asks b.now.head.types (btf_of b.now.head b.now.section.now work.old))
+        ≡ put_said text.old (Ok at) (proto_below (work_asks b.now.head.types (btf_of b.now.head b.now.section.now work.old))
         (work_naming b.now.head) (btf_of b.now.head b.now.section.now work.old) below (name_text b.now.head b.now.section.now d.name) d.lvl
         last_was_ptr (chain_at b.now.head b.now.section.now work.old d.id n) work.old) }
 {
@@ -390,8 +378,8 @@ fn emit_proto(
         let name = d.name;
         return emit_name(b, text, at, name, last_was_ptr);
     }
-    let a = put_two(text, at, b' ', b'(');
-    let c = emit_type_chain(b, work, text, a, d, n, below);
+    let a = put_bytes(text, at, b" (")?;
+    let c = emit_type_chain(b, work, text, a, d, n, below)?;
     put_byte(text, c, b')')
 }
 
@@ -405,19 +393,16 @@ fn emit_params(
     params: Entries,
     lvl: u32,
     below: u32,
-) -> usize
+) -> Result<usize, Refusal>
     ensures { out_of result text.new work.new
-        ≡ put_said text.old at (params_below (work_asks b.now.head.types (btf_of b.now.head b.now.section.now work.old))
+        ≡ put_said text.old (Ok at) (params_below (work_asks b.now.head.types (btf_of b.now.head b.now.section.now work.old))
         (work_naming b.now.head) (btf_of b.now.head b.now.section.now work.old) below lvl
         (shown_params (from (param_of b.now.head b.now.section.now params.at) 0 params.vlen)) work.old) }
 {
     let shown = shown_params(b, params);
-    let mut p = put_byte(text, at, b'(');
+    let mut p = put_byte(text, at, b'(')?;
     for k in 0..shown.vlen {
-        if stopped(text, p) {
-            return p;
-        }
-        p = emit_param(b, work, text, p, shown, k, lvl, below);
+        p = emit_param(b, work, text, p, shown, k, lvl, below)?;
     }
     put_byte(text, p, b')')
 }
@@ -433,9 +418,9 @@ fn emit_param(
     k: u32,
     lvl: u32,
     below: u32,
-) -> usize
+) -> Result<usize, Refusal>
     ensures { out_of result text.new work.new
-        ≡ put_said text.old at (param_text
+        ≡ put_said text.old (Ok at) (param_text
         (λ id name. emit_type_decl_once (work_asks b.now.head.types (btf_of b.now.head b.now.section.now work.old)) (work_naming b.now.head)
         (btf_of b.now.head b.now.section.now work.old) below id name lvl) (eqb k 0) (param_of b.now.head b.now.section.now params.at k)
         (leb params.vlen (k + 1)) work.old) }
@@ -447,7 +432,7 @@ fn emit_param(
         name: bare(b.word(p)),
         lvl: lvl,
     };
-    let a = put_comma(text, at, k);
+    let a = put_comma(text, at, k)?;
     if is_any_more(params.vlen, k, type_id) {
         return put_word(text, a, Word::Dots);
     }

@@ -1,5 +1,5 @@
 // A typedef's line.
-ghost use Rattle.std.specs.Prelude.{◌≡◌};
+ghost use Rattle.std.specs.Prelude.{◌≡◌, Ok};
 ghost use Rattle.spec_c_dumper.specs.alignment_once.Writers.{emit_typedef_def_once};
 ghost use Rattle.btf_layout.specs.asked.Asked.{work_asks};
 ghost use Rattle.spec_c_dumper.specs.rules.Place.{out_of, put_said};
@@ -9,6 +9,7 @@ ghost use Rattle.spec_type_table.specs.Table.{btf_of, work_naming};
 use crate::declarations::{Declarator, emit_type_decl};
 use base_bytes::limit;
 use base_bytes::put::put_byte;
+use base_bytes::refusal::Refusal;
 use base_keywords::table::{Word, put_word};
 use btf_type_table::table::Table;
 use c_dumper_name_versions::names::resolve_type_name;
@@ -23,9 +24,9 @@ pub fn emit_typedef_def(
     id: u32,
     name_off: u32,
     type_id: u32,
-) -> usize
+) -> Result<usize, Refusal>
     ensures { out_of result text.new work.new
-        ≡ put_said text.old at (emit_typedef_def_once (work_asks b.now.head.types (btf_of b.now.head b.now.section.now work.old))
+        ≡ put_said text.old (Ok at) (emit_typedef_def_once (work_asks b.now.head.types (btf_of b.now.head b.now.section.now work.old))
         (work_naming b.now.head) (btf_of b.now.head b.now.section.now work.old) id (str_at b.now.head b.now.section.now name_off) type_id
         work.old) }
 {
@@ -35,8 +36,8 @@ pub fn emit_typedef_def(
         name: name,
         lvl: 0,
     };
-    let a = put_word(text, at, Word::Typedef);
-    let c = put_byte(text, a, b' ');
-    let e = emit_type_decl(b, work, text, c, d, limit::MOST_CALLS);
+    let a = put_word(text, at, Word::Typedef)?;
+    let c = put_byte(text, a, b' ')?;
+    let e = emit_type_decl(b, work, text, c, d, limit::MOST_CALLS)?;
     emit_decl_tags(b, work, text, e, id, WHOLE_TYPE)
 }

@@ -1,27 +1,21 @@
 // How a call of ordering starts: what the ceiling says to it, and what comes of an id in progress.
 ghost use Rattle.std.specs.Prelude.{◌≡◌};
+ghost use Rattle.spec_c_dumper.specs.ceiling.Ceiling.{allows};
 ghost use Rattle.c_dumper_dependency_order.specs.order_state.Work.{table_in};
-ghost use Rattle.c_dumper_dependency_order.specs.begin.Start.{limit_by, opened_by, is_known, is_passable, met_by};
+ghost use Rattle.c_dumper_dependency_order.specs.begin.Start.{limit_of, opened_by, is_known, is_passable, met_by};
 
 use crate::order_state::{Order, is_ordered, refused, strong};
 use base_bytes::refusal::Refusal;
 use btf_type_table::table::Table;
 use spec_type_table::Kind;
 
-// A ceiling on the calls of ordering, where it is set. The walk takes it apart: two numbers stay in registers, a struct does not.
-#[derive(Clone, Copy)]
-pub struct Ceiling {
-    pub is_set: bool,
-    pub calls: u64,
-}
-
 // One more call: counted under a ceiling, and refused where it would pass it.
-pub fn count_call(is_set: bool, calls: u64, o: Order) -> Order
-    ensures { result ≡ opened_by (limit_by is_set calls) o }
+pub fn count_call(ceiling: Option<u64>, o: Order) -> Order
+    ensures { result ≡ opened_by (limit_of ceiling) o }
 {
-    if !is_set {
+    let Some(calls) = ceiling else {
         return o;
-    }
+    };
     if calls <= o.made {
         return refused(o, Refusal::CeilingPassed);
     }
@@ -31,12 +25,22 @@ pub fn count_call(is_set: bool, calls: u64, o: Order) -> Order
     }
 }
 
+// Whether one more call stays under the ceiling.
+fn is_allowed(ceiling: Option<u64>, made: u64) -> bool
+    ensures { result ≡ allows (limit_of ceiling) made }
+{
+    match ceiling {
+        Some(calls) => made < calls,
+        None => true,
+    }
+}
+
 // Whether a call would find its id ordered: then it is only counted.
-pub fn is_known(work: &[u8], o: Order, id: u32, left: u32, is_set: bool, calls: u64) -> bool
-    ensures { result ≡ is_known is_set calls left o work.now id }
+pub fn is_known(work: &[u8], o: Order, id: u32, left: u32, ceiling: Option<u64>) -> bool
+    ensures { result ≡ is_known ceiling left o work.now id }
 {
     let is_ordered = is_ordered(work, id);
-    (o.stop == 0) & (left != 0) & (!is_set | (o.made < calls)) & is_ordered
+    o.stop.is_none() & (left != 0) & is_allowed(ceiling, o.made) & is_ordered
 }
 
 // An id in progress: a named composite behind a pointer is passed over, anything else is a cycle.

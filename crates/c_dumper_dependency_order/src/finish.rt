@@ -34,7 +34,7 @@ pub fn finish(
         then_bind (kept_out o work.old leads.old)
         (λ m _ k. told (finish_of (kept_store v) lists id m) is_strong k) }
 {
-    if o.stop != 0 {
+    if o.stop.is_some() {
         return o;
     }
     if lists {
@@ -59,7 +59,7 @@ pub fn finish_typedef(
     ensures { kept_out result work.new leads.new ≡
         then_bind (kept_out o work.old leads.old) (λ m strong k. alias_kept v m id has_ptr strong k) }
 {
-    if o.stop != 0 {
+    if o.stop.is_some() {
         return o;
     }
     if !(!has_ptr | o.is_strong) {

@@ -1,7 +1,8 @@
 // The leaders of the ids that ordering lists: a word for each id, beside the work.
 ghost use Rattle.std.specs.Prelude.{◌≡◌};
-ghost use Rattle.c_dumper_dependency_order.specs.leaders.Leads.{led_two, inside_of, word_at, is_noted, note_in, leader_in};
+ghost use Rattle.c_dumper_dependency_order.specs.leaders.Leads.{led_two, inside_of, is_noted, note_in, leader_in};
 
+use base_bytes::element::{peek, store};
 use base_bytes::limit;
 
 // The innermost composite or typedef that is being ordered, and the leader of that one; both are the requested id where
@@ -29,19 +30,10 @@ pub fn inside(v: Way, id: u32) -> Way
     }
 }
 
-fn word_at(leads: &[u64], i: usize) -> u64
-    ensures { result ≡ word_at leads.now i }
-{
-    if i < leads.len() {
-        return leads[i];
-    }
-    0
-}
-
 fn is_noted(leads: &[u64], turn: u32, id: u32) -> bool
     ensures { result ≡ is_noted turn leads.now id }
 {
-    word_at(leads, id as usize) / limit::TWO_TO_32 == (turn as u64)
+    peek(leads, id as usize, 0) / limit::TWO_TO_32 == (turn as u64)
 }
 
 // Notes the leader of an id, unless this request has noted one.
@@ -52,11 +44,11 @@ pub fn note(leads: &mut [u64], v: Way, id: u32)
         return;
     }
     let lead = led_by(v, id);
-    let i = id as usize;
-    if leads.len() <= i {
-        return;
-    }
-    leads[i] = (v.turn as u64) * limit::TWO_TO_32 + (lead as u64);
+    store(
+        leads,
+        id as usize,
+        (v.turn as u64) * limit::TWO_TO_32 + (lead as u64),
+    );
 }
 
 // The leader of an id in the request for `req`.
@@ -64,7 +56,7 @@ pub fn leader_of(leads: &[u64], req: u32, turn: u32, id: u32) -> u32
     ensures { result ≡ leader_in req turn leads.now id }
 {
     if is_noted(leads, turn, id) {
-        return (word_at(leads, id as usize) % limit::TWO_TO_32) as u32;
+        return (peek(leads, id as usize, 0) % limit::TWO_TO_32) as u32;
     }
     req
 }

@@ -1,8 +1,8 @@
 // What ordering keeps: the order states of the types and the order list, both in the work words, and what it has come to.
-ghost use Rattle.std.specs.Prelude.{◌≡◌, eqb};
+ghost use Rattle.std.specs.Prelude.{◌≡◌};
+ghost use Rattle.spec_c_dumper.specs.rules.Order.{is_done};
 ghost use Rattle.spec_type_table.specs.Cells.{get_field, put_field};
 ghost use Rattle.c_dumper_dependency_order.specs.order_state.Work.{mark_is, mark_of, code, strong_of, refused_by};
-ghost use Rattle.spec_bytes.specs.Refusals.{refusal_number};
 
 use base_bytes::refusal::Refusal;
 use btf_type_table::cell;
@@ -23,26 +23,20 @@ const OPEN: u32 = 1;
 
 const DONE: u32 = 2;
 
-// What ordering has come to: the calls made under a ceiling, the length of the order list, the refusal that stopped it, 0
-// while there is none, and whether the last way was strong.
+// What ordering has come to: the calls made under a ceiling, the length of the order list, the refusal that stopped it, if one
+// did, and whether the last way was strong.
 #[derive(Clone, Copy)]
 pub struct Order {
     pub made: u64,
     pub len: u32,
-    pub stop: u32,
+    pub stop: Option<Refusal>,
     pub is_strong: bool,
-}
-
-pub fn get_order_state(work: &[u8], id: u32) -> u32
-    ensures { result ≡ get_field work.now id 1 }
-{
-    get_field(work, id, cell::ORDER_STATE)
 }
 
 pub fn get_mark(work: &[u8], id: u32) -> Mark
     ensures { mark_is result ≡ mark_of (get_field work.now id 1) }
 {
-    match get_order_state(work, id) {
+    match get_field(work, id, cell::ORDER_STATE) {
         DONE => Mark::Done,
         OPEN => Mark::Open,
         _ => Mark::New,
@@ -50,9 +44,9 @@ pub fn get_mark(work: &[u8], id: u32) -> Mark
 }
 
 pub fn is_ordered(work: &[u8], id: u32) -> bool
-    ensures { result ≡ eqb (get_field work.now id 1) 2 }
+    ensures { result ≡ is_done (mark_of (get_field work.now id 1)) }
 {
-    get_order_state(work, id) == DONE
+    get_mark(work, id) == Mark::Done
 }
 
 pub fn set_mark(work: &mut [u8], id: u32, mark: Mark)
@@ -93,10 +87,10 @@ pub fn strong(o: Order, is_strong: bool) -> Order
 }
 
 pub fn refused(o: Order, c: Refusal) -> Order
-    ensures { result ≡ refused_by o (refusal_number c) }
+    ensures { result ≡ refused_by o c }
 {
     Order {
-        stop: u32::from(c),
+        stop: Some(c),
         is_strong: false,
         ..o
     }

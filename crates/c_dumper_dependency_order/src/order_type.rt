@@ -4,7 +4,7 @@ ghost use Rattle.spec_c_dumper.specs.ceiling.Ceiling.{then_bind, each_within};
 ghost use Rattle.spec_type_table.specs.Nodes.{member_ids};
 ghost use Rattle.c_dumper_dependency_order.specs.entries.Entries.{entry_ids};
 ghost use Rattle.c_dumper_dependency_order.specs.order_state.Work.{table_in};
-ghost use Rattle.c_dumper_dependency_order.specs.begin.Start.{limit_by};
+ghost use Rattle.c_dumper_dependency_order.specs.begin.Start.{limit_of};
 ghost use Rattle.c_dumper_dependency_order.specs.leaders.Leads.{order_kept, kept_out, way_kept, fresh_kept, enter_kept};
 
 use crate::begin::{count_call, is_known, meet};
@@ -28,32 +28,30 @@ pub fn order_type(
     has_ptr: bool,
     left: u32,
     v: Way,
-    is_set: bool,
-    calls: u64,
+    ceiling: Option<u64>,
 ) -> Order
     ensures { kept_out result work.new leads.new ≡
         then_bind (kept_out o work.old leads.old)
-        (λ m _ k. order_kept (limit_by is_set calls) v left (table_in b.now.head b.now.section.now work.old) m id has_ptr k) }
+        (λ m _ k. order_kept (limit_of ceiling) v left (table_in b.now.head b.now.section.now work.old) m id has_ptr k) }
 {
-    if o.stop != 0 {
+    if o.stop.is_some() {
         return o;
     }
     if left == 0 {
         return refused(o, Refusal::TooDeep);
     }
-    let p = count_call(is_set, calls, o);
-    if p.stop != 0 {
+    let p = count_call(ceiling, o);
+    if p.stop.is_some() {
         return p;
     }
     match get_mark(work, id) {
         Mark::Done => strong(p, true),
         Mark::Open => meet(b, work, p, id, has_ptr),
-        Mark::New => order_new(b, work, leads, p, id, has_ptr, left - 1, v, is_set, calls),
+        Mark::New => order_new(b, work, leads, p, id, has_ptr, left - 1, v, ceiling),
     }
 }
 
 // An id that is not ordered yet. Most of what a pointer or a qualifier leads to is known: that is counted without the call.
-// set and max: the ceiling.
 #[cycle(order_type)]
 fn order_new(
     b: &Table,
@@ -64,12 +62,11 @@ fn order_new(
     weak: bool,
     left: u32,
     v: Way,
-    set: bool,
-    max: u64,
+    ceiling: Option<u64>,
 ) -> Order
     ensures { kept_out result work.new leads.new ≡
         then_bind (kept_out o work.old leads.old)
-        (λ m _ k. fresh_kept (limit_by set max) v (table_in b.now.head b.now.section.now work.old) left m id weak k) }
+        (λ m _ k. fresh_kept (limit_of ceiling) v (table_in b.now.head b.now.section.now work.old) left m id weak k) }
 {
     let t = b.type_by_id(work, id);
     match b.node_of(t) {
@@ -80,32 +77,32 @@ fn order_new(
             finish(work, leads, o, id, named, true, v)
         }
         Node::Through(is_array, t) => {
-            if is_known(work, o, t, left, set, max) {
-                return strong(count_call(set, max, o), true);
+            if is_known(work, o, t, left, ceiling) {
+                return strong(count_call(ceiling, o), true);
             }
             let past = is_weak_past(b.head, is_array, weak);
-            order_type(b, work, leads, o, t, past, left, v, set, max)
+            order_type(b, work, leads, o, t, past, left, v, ceiling)
         }
         Node::Ptr(t) => {
-            if is_known(work, o, t, left, set, max) {
-                return finish(work, leads, count_call(set, max, o), id, false, true, v);
+            if is_known(work, o, t, left, ceiling) {
+                return finish(work, leads, count_call(ceiling, o), id, false, true, v);
             }
-            let r = order_type(b, work, leads, o, t, true, left, v, set, max);
+            let r = order_type(b, work, leads, o, t, true, left, v, ceiling);
             finish(work, leads, r, id, false, r.is_strong, v)
         }
         Node::Typedef(t) => {
             let u = inside(v, id);
-            let r = order_type(b, work, leads, o, t, weak, left, u, set, max);
+            let r = order_type(b, work, leads, o, t, weak, left, u, ceiling);
             finish_typedef(work, leads, r, id, weak, v)
         }
         Node::Proto(res, params) => {
-            let r = order_type(b, work, leads, o, res, weak, left, v, set, max);
+            let r = order_type(b, work, leads, o, res, weak, left, v, ceiling);
             let each = Each::Param;
-            order_entries(b, work, leads, r, params, each, weak, left, v, set, max)
+            order_entries(b, work, leads, r, params, each, weak, left, v, ceiling)
         }
         Node::Composite(es) => {
             let named = b.is_named(t);
-            order_composite(b, work, leads, o, id, named, weak, es, left, v, set, max)
+            order_composite(b, work, leads, o, id, named, weak, es, left, v, ceiling)
         }
     }
 }
@@ -123,12 +120,11 @@ fn order_composite(
     members: Entries,
     left: u32,
     v: Way,
-    is_set: bool,
-    calls: u64,
+    ceiling: Option<u64>,
 ) -> Order
     ensures { kept_out result work.new leads.new ≡
         then_bind (kept_out o work.old leads.old)
-        (λ m _ k. enter_kept (limit_by is_set calls) v (table_in b.now.head b.now.section.now work.old) left m id has_ptr named
+        (λ m _ k. enter_kept (limit_of ceiling) v (table_in b.now.head b.now.section.now work.old) left m id has_ptr named
         (member_ids b.now.head b.now.section.now members) k) }
 {
     if is_passed(named, has_ptr) {
@@ -137,9 +133,7 @@ fn order_composite(
     set_mark(work, id, Mark::Open);
     let u = inside(v, id);
     let each = Each::Member;
-    let r = order_entries(
-        b, work, leads, o, members, each, false, left, u, is_set, calls,
-    );
+    let r = order_entries(b, work, leads, o, members, each, false, left, u, ceiling);
     finish(work, leads, r, id, named, true, v)
 }
 
@@ -155,23 +149,22 @@ fn order_entries(
     has_ptr: bool,
     left: u32,
     v: Way,
-    is_set: bool,
-    calls: u64,
+    ceiling: Option<u64>,
 ) -> Order
     ensures { kept_out result work.new leads.new ≡
         then_bind (kept_out o work.old leads.old)
-        (λ m strong k. each_within (way_kept (limit_by is_set calls) v (table_in b.now.head b.now.section.now work.old) left has_ptr)
+        (λ m strong k. each_within (way_kept (limit_of ceiling) v (table_in b.now.head b.now.section.now work.old) left has_ptr)
         (entry_ids b.now.head b.now.section.now each entries) m strong k) }
 {
     let mut r = o;
     for k in 0..entries.vlen {
         let t = entry_type(b, entries, each, k);
-        if is_known(work, r, t, left, is_set, calls) {
-            r = strong(count_call(is_set, calls, r), true);
+        if is_known(work, r, t, left, ceiling) {
+            r = strong(count_call(ceiling, r), true);
             continue;
         }
         let before = r.is_strong;
-        let p = order_type(b, work, leads, r, t, has_ptr, left, v, is_set, calls);
+        let p = order_type(b, work, leads, r, t, has_ptr, left, v, ceiling);
         r = strong(p, before | p.is_strong);
     }
     r

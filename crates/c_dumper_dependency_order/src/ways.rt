@@ -20,26 +20,13 @@ pub fn is_passed(named: bool, has_ptr: bool) -> bool
     has_ptr & named
 }
 
-// The number of a request, 0 if it is accepted, and the calls made after it.
-#[derive(Clone, Copy)]
-pub struct Idle {
-    pub number: u32,
-    pub made: u64,
-}
-
-// A request under a ceiling, after so many calls, that has nothing to do: it opens one.
+// The calls made after a request under a ceiling that has nothing to do: it opens one, if one is left.
 #[tactic(auto, unfolding(crate::specs::ways::Idle::idle_in))]
-pub fn count_idle(made: u64, ceiling: u64) -> Idle
+pub fn count_idle(made: u64, ceiling: u64) -> Result<u64, Refusal>
     ensures { result ≡ idle_in made ceiling }
 {
     if ceiling <= made {
-        return Idle {
-            number: u32::from(Refusal::CeilingPassed),
-            made: made,
-        };
+        return Err(Refusal::CeilingPassed);
     }
-    Idle {
-        number: 0,
-        made: made + 1,
-    }
+    Ok(made + 1)
 }

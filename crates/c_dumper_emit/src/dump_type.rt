@@ -1,5 +1,5 @@
 // One request: ordering, then the lines of the listed ids, from the list's first to its last.
-ghost use Rattle.std.specs.Prelude.{◌≡◌};
+ghost use Rattle.std.specs.Prelude.{◌≡◌, Ok};
 ghost use Rattle.spec_c_dumper.specs.ceiling.Ceiling.{calls_made};
 ghost use Rattle.spec_c_dumper.specs.rules.Machine.{obind};
 ghost use Rattle.spec_type_table.specs.Cells.{get_field};
@@ -15,11 +15,10 @@ use crate::emit_type::emit_ordered;
 use crate::entries::{Asked, Pen};
 use crate::order_list::clear_list;
 use base_bytes::limit;
-use base_bytes::put::stop;
+use base_bytes::refusal::Refusal;
 use btf_type_table::table::Table;
-use c_dumper_dependency_order::begin::Ceiling;
 use c_dumper_dependency_order::leaders::Way;
-use c_dumper_dependency_order::order_state::{Order, get_order_state};
+use c_dumper_dependency_order::order_state::{Mark, Order, get_mark};
 use c_dumper_dependency_order::order_type::order_type;
 use spec_type_table::Kind;
 
@@ -28,25 +27,33 @@ pub fn is_idle(b: &Table, work: &[u8], id: u32) -> bool
     ensures { result ≡ is_idle (mark_of (get_field work.now id 1))
         ((table_in b.now.head b.now.section.now work.now).node id) }
 {
-    let state = get_order_state(work, id);
-    if state == 2 {
-        return true;
+    match get_mark(work, id) {
+        Mark::Done => true,
+        Mark::Open => false,
+        Mark::New => {
+            let t = b.type_by_id(work, id);
+            matches!(
+                Kind::of(t.info),
+                Kind::Func | Kind::Var | Kind::Datasec | Kind::DeclTag
+            )
+        }
     }
-    if state == 1 {
-        return false;
-    }
-    let t = b.type_by_id(work, id);
-    matches!(
-        Kind::of(t.info),
-        Kind::Func | Kind::Var | Kind::Datasec | Kind::DeclTag
-    )
 }
 
-// Where a request came to: the place after its text and the count of entries after it, or a place past the end that says which
-// refusal stopped it; and the calls of ordering made by then.
+// The requested id, which request of the call it is, and whether the call is lent a list of entries. Without one the list and the
+// leaders are empty slices.
+#[derive(Clone, Copy)]
+pub struct Request {
+    pub req: u32,
+    pub turn: u32,
+    pub lists: bool,
+}
+
+// Where a request came to: the place after its text and the count of entries after it, or the refusal that stopped it; and the calls of
+// ordering made by then.
 #[derive(Clone, Copy)]
 pub struct Dumped {
-    pub pen: Pen,
+    pub pen: Result<Pen, Refusal>,
     pub made: u64,
 }
 
@@ -59,20 +66,20 @@ pub fn dump_type(
     list: &mut [u8],
     leads: &mut [u64],
     p: Pen,
-    q: Asked,
+    q: Request,
     made: u64,
-    c: Ceiling,
+    ceiling: Option<u64>,
 ) -> Dumped
     ensures { (with_leads leads.new (noted_out 0 result.pen text.new work.new list.new)
-        ≡ obind (with_leads leads.old (noted_out 0 p text.old work.old list.old))
+        ≡ obind (with_leads leads.old (noted_out 0 (Ok p) text.old work.old list.old))
         (λ m. dumped_kept b.now.head (btf_of b.now.head b.now.section.now work.old) (lent_list q.lists list.old)
-        (limit_of c) m q.req q.turn made)) × (result.made ≡ calls_made (ordered_in (btf_of b.now.head b.now.section.now work.old)
-        (limit_of c) (record { work = work.old; len = 0 }) q.req made)) }
+        (limit_of ceiling) m q.req q.turn made)) × (result.made ≡ calls_made (ordered_in (btf_of b.now.head b.now.section.now work.old)
+        (limit_of ceiling) (record { work = work.old; len = 0 }) q.req made)) }
 {
     let start = Order {
         made: made,
         len: 0,
-        stop: 0,
+        stop: None,
         is_strong: false,
     };
     let id = q.req;
@@ -82,15 +89,20 @@ pub fn dump_type(
         turn: q.turn,
     };
     let most = limit::MOST_CALLS;
-    let o = order_type(b, work, leads, start, id, false, most, v, c.is_set, c.calls);
-    if o.stop != 0 {
-        let at = stop(text, p.at, o.stop);
+    let o = order_type(b, work, leads, start, id, false, most, v, ceiling);
+    if let Some(c) = o.stop {
         return Dumped {
-            pen: Pen { at, ..p },
+            pen: Err(c),
             made: o.made,
         };
     }
-    let r = emit_ordered(b, work, text, list, leads, q, p, o.len);
+    let asked = Asked {
+        req: id,
+        turn: q.turn,
+        lists: q.lists,
+        leads: leads,
+    };
+    let r = emit_ordered(b, work, text, list, &asked, p, o.len);
     clear_list(work, o.len);
     Dumped {
         pen: r,

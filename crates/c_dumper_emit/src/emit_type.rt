@@ -1,6 +1,6 @@
 // Emission: which lines a listed id brings, and their order; each with its entry where the call is lent a list. The steps that go on to
 // no other id are in steps.
-ghost use Rattle.std.specs.Prelude.{◌≡◌, not, ◌&&◌, eqb, ℕ};
+ghost use Rattle.std.specs.Prelude.{◌≡◌, not, ◌&&◌, eqb, ℕ, Ok};
 ghost use Rattle.spec_c_dumper.specs.rules.Machine.{obind, eeach};
 ghost use Rattle.spec_type_table.specs.Cells.{get_field};
 ghost use Rattle.spec_type_table.specs.Records.{record_by_id, entries_of};
@@ -15,10 +15,9 @@ use crate::entries::{Asked, Cause, Pen, origin_at};
 use crate::lines::define;
 use crate::steps::{
     EmitState, emit_again, end_composite, end_typedef, get_emit_state, inner, mention_composite,
-    set_emit_state, stop_at,
+    set_emit_state,
 };
 use base_bytes::limit;
-use base_bytes::put::stopped;
 use base_bytes::refusal::Refusal;
 use btf_type_table::kind::{entries_of, member_place, param_place};
 use btf_type_table::table::Table;
@@ -56,37 +55,33 @@ pub fn emit_type(
     work: &mut [u8],
     text: &mut [u8],
     list: &mut [u8],
-    leads: &[u64],
-    q: Asked,
+    q: &Asked,
     p: Pen,
     id: u32,
     cont: u32,
     left: u32,
-) -> Pen
+) -> Result<Pen, Refusal>
     ensures { (n : ℕ) → noted_out n result text.new work.new list.new
-        ≡ obind (noted_out n p text.old work.old list.old)
-        (λ m. emit_n b.now.head (btf_of b.now.head b.now.section.now work.old) (lent_list q.lists list.old)
-        (entry_in q.req q.turn leads.now) left cont m id) }
+        ≡ obind (noted_out n (Ok p) text.old work.old list.old)
+        (λ m. emit_n b.now.head (btf_of b.now.head b.now.section.now work.old) (lent_list q.now.lists list.old)
+        (entry_in q.now.req q.now.turn q.now.leads.now) left cont m id) }
 {
-    if stopped(text, p.at) {
-        return p;
-    }
     if left == 0 {
-        return stop_at(text, p, Refusal::TooDeep);
+        return Err(Refusal::TooDeep);
     }
     match get_emit_state(work, id) {
-        EmitState::Emitted => return p,
+        EmitState::Emitted => return Ok(p),
         EmitState::Emitting => {
-            return emit_again(b, work, text, list, leads, q, p, id, cont);
+            return emit_again(b, work, text, list, q, p, id, cont);
         }
         EmitState::NotEmitted => {}
     }
     let t = b.type_by_id(work, id);
     if (cont == 0) & !b.is_named(t) {
-        return stop_at(text, p, Refusal::NamelessTypedef);
+        return Err(Refusal::NamelessTypedef);
     }
     let rest = left - 1;
-    emit_new(b, work, text, list, leads, q, p, id, t, cont, rest)
+    emit_new(b, work, text, list, q, p, id, t, cont, rest)
 }
 
 // An id that is not emitted yet.
@@ -96,39 +91,36 @@ fn emit_new(
     work: &mut [u8],
     text: &mut [u8],
     list: &mut [u8],
-    leads: &[u64],
-    q: Asked,
+    q: &Asked,
     p: Pen,
     id: u32,
     t: BtfType,
     cont: u32,
     left: u32,
-) -> Pen
+) -> Result<Pen, Refusal>
     requires { t ≡ record_by_id b.now.head b.now.section.now work.old id }
     ensures { (n : ℕ) → noted_out n result text.new work.new list.new
-        ≡ obind (noted_out n p text.old work.old list.old)
-        (λ m. new_n b.now.head (btf_of b.now.head b.now.section.now work.old) (lent_list q.lists list.old)
-        (entry_in q.req q.turn leads.now) left cont m id) }
+        ≡ obind (noted_out n (Ok p) text.old work.old list.old)
+        (λ m. new_n b.now.head (btf_of b.now.head b.now.section.now work.old) (lent_list q.now.lists list.old)
+        (entry_in q.now.req q.now.turn q.now.leads.now) left cont m id) }
 {
     match b.node_of(t) {
-        Node::Ignored | Node::Plain => p,
-        Node::Listed(fwd) => emit_leaf(b, work, text, list, leads, q, p, id, t, cont, fwd),
+        Node::Ignored | Node::Plain => Ok(p),
+        Node::Listed(fwd) => emit_leaf(b, work, text, list, q, p, id, t, cont, fwd),
         Node::Through(_, y) | Node::Ptr(y) => {
-            emit_type(b, work, text, list, leads, q, p, y, cont, left)
+            emit_type(b, work, text, list, q, p, y, cont, left)
         }
         Node::Typedef(y) => {
             set_emit_state(work, id, EmitState::Emitting);
-            let a = emit_type(b, work, text, list, leads, q, p, y, id, left);
-            end_typedef(b, work, text, list, leads, q, a, id, t, cont)
+            let a = emit_type(b, work, text, list, q, p, y, id, left)?;
+            end_typedef(b, work, text, list, q, a, id, t, cont)
         }
         Node::Proto(y, ps) => {
-            let a = emit_type(b, work, text, list, leads, q, p, y, cont, left);
+            let a = emit_type(b, work, text, list, q, p, y, cont, left)?;
             let held = Held::Params;
-            emit_entries(b, work, text, list, leads, q, a, held, ps, cont, left)
+            emit_entries(b, work, text, list, q, a, held, ps, cont, left)
         }
-        Node::Composite(_) => {
-            emit_composite(b, work, text, list, leads, q, p, id, t, cont, left)
-        }
+        Node::Composite(_) => { emit_composite(b, work, text, list, q, p, id, t, cont, left) }
     }
 }
 
@@ -139,19 +131,18 @@ fn emit_composite(
     work: &mut [u8],
     text: &mut [u8],
     list: &mut [u8],
-    leads: &[u64],
-    q: Asked,
+    q: &Asked,
     p: Pen,
     id: u32,
     t: BtfType,
     cont: u32,
     left: u32,
-) -> Pen
+) -> Result<Pen, Refusal>
     requires { t ≡ record_by_id b.now.head b.now.section.now work.old id }
     ensures { (n : ℕ) → noted_out n result text.new work.new list.new
-        ≡ obind (noted_out n p text.old work.old list.old)
-        (λ m. composite_n b.now.head (btf_of b.now.head b.now.section.now work.old) (lent_list q.lists list.old)
-        (entry_in q.req q.turn leads.now) left cont (member_ids b.now.head b.now.section.now (entries_of t)) m id) }
+        ≡ obind (noted_out n (Ok p) text.old work.old list.old)
+        (λ m. composite_n b.now.head (btf_of b.now.head b.now.section.now work.old) (lent_list q.now.lists list.old)
+        (entry_in q.now.req q.now.turn q.now.leads.now) left cont (member_ids b.now.head b.now.section.now (entries_of t)) m id) }
 {
     let named = b.is_named(t);
     if named & (cont != 0) {
@@ -161,8 +152,8 @@ fn emit_composite(
     let within = inner(named, id, cont);
     let held = Held::Members;
     let ms = entries_of(t);
-    let a = emit_entries(b, work, text, list, leads, q, p, held, ms, within, left);
-    end_composite(b, work, text, list, leads, q, a, id, t, cont)
+    let a = emit_entries(b, work, text, list, q, p, held, ms, within, left)?;
+    end_composite(b, work, text, list, q, a, id, t, cont)
 }
 
 // The types of all entries of a record.
@@ -172,19 +163,18 @@ fn emit_entries(
     work: &mut [u8],
     text: &mut [u8],
     list: &mut [u8],
-    leads: &[u64],
-    q: Asked,
+    q: &Asked,
     p: Pen,
     held: Held,
     es: Entries,
     cont: u32,
     left: u32,
-) -> Pen
+) -> Result<Pen, Refusal>
     ensures { (n : ℕ) → noted_out n result text.new work.new list.new
-        ≡ obind (noted_out n p text.old work.old list.old)
+        ≡ obind (noted_out n (Ok p) text.old work.old list.old)
         (λ m. eeach
-        (emit_n b.now.head (btf_of b.now.head b.now.section.now work.old) (lent_list q.lists list.old) (entry_in q.req
-        q.turn leads.now) left cont) (held_ids held b.now.head b.now.section.now es) m) }
+        (emit_n b.now.head (btf_of b.now.head b.now.section.now work.old) (lent_list q.now.lists list.old)
+        (entry_in q.now.req q.now.turn q.now.leads.now) left cont) (held_ids held b.now.head b.now.section.now es) m) }
 {
     let mut a = p;
     for k in 0..es.vlen {
@@ -192,9 +182,9 @@ fn emit_entries(
         if is_done(work, t, left) {
             continue;
         }
-        a = emit_type(b, work, text, list, leads, q, a, t, cont, left);
+        a = emit_type(b, work, text, list, q, a, t, cont, left)?;
     }
-    a
+    Ok(a)
 }
 
 // An enum is defined at the top only; a forward is printed wherever it is met.
@@ -203,28 +193,27 @@ fn emit_leaf(
     work: &mut [u8],
     text: &mut [u8],
     list: &mut [u8],
-    leads: &[u64],
-    q: Asked,
+    q: &Asked,
     p: Pen,
     id: u32,
     t: BtfType,
     cont: u32,
     fwd: bool,
-) -> Pen
+) -> Result<Pen, Refusal>
     requires { t ≡ record_by_id b.now.head b.now.section.now work.old id }
     ensures { (n : ℕ) → noted_out n result text.new work.new list.new
-        ≡ obind (noted_out n p text.old work.old list.old)
-        (λ m. leaf_n b.now.head (btf_of b.now.head b.now.section.now work.old) (lent_list q.lists list.old)
-        (entry_in q.req q.turn leads.now) fwd cont m id) }
+        ≡ obind (noted_out n (Ok p) text.old work.old list.old)
+        (λ m. leaf_n b.now.head (btf_of b.now.head b.now.section.now work.old) (lent_list q.now.lists list.old)
+        (entry_in q.now.req q.now.turn q.now.leads.now) fwd cont m id) }
 {
     if fwd | (cont == 0) {
-        let e = origin_at(leads, q, Cause::ForwardLine, id, cont);
-        let a = define(b, work, text, list, q.lists, p, id, t, e);
+        let e = origin_at(q, Cause::ForwardLine, id, cont);
+        let a = define(b, work, text, list, q.lists, p, id, t, e)?;
         set_emit_state(work, id, EmitState::Emitted);
-        return a;
+        return Ok(a);
     }
     set_emit_state(work, id, EmitState::Emitted);
-    p
+    Ok(p)
 }
 
 // Emits the first n ids of the order list, each at the top.
@@ -233,21 +222,20 @@ pub fn emit_ordered(
     work: &mut [u8],
     text: &mut [u8],
     list: &mut [u8],
-    leads: &[u64],
-    q: Asked,
+    q: &Asked,
     p: Pen,
     n: u32,
-) -> Pen
+) -> Result<Pen, Refusal>
     ensures { noted_out n result text.new work.new list.new
-        ≡ obind (noted_out n p text.old work.old list.old)
+        ≡ obind (noted_out n (Ok p) text.old work.old list.old)
         (λ m. eeach
-        (emit_n b.now.head (btf_of b.now.head b.now.section.now work.old) (lent_list q.lists list.old) (entry_in q.req
-        q.turn leads.now) 512 0) (sheet_store.list m.mach) m) }
+        (emit_n b.now.head (btf_of b.now.head b.now.section.now work.old) (lent_list q.now.lists list.old)
+        (entry_in q.now.req q.now.turn q.now.leads.now) 512 0) (sheet_store.list m.mach) m) }
 {
     let mut a = p;
     for k in 0..n {
         let id = get_listed(work, k);
-        a = emit_type(b, work, text, list, leads, q, a, id, 0, limit::MOST_CALLS);
+        a = emit_type(b, work, text, list, q, a, id, 0, limit::MOST_CALLS)?;
     }
-    a
+    Ok(a)
 }

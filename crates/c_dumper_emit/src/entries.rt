@@ -1,12 +1,11 @@
 // The entry of a line in the lent list: three words, before any other step of the line.
-ghost use Rattle.std.specs.Prelude.{◌≡◌, List, ℕ, ◌<◌, ◌/◌, length};
+ghost use Rattle.std.specs.Prelude.{◌≡◌, List, ℕ, ◌<◌, ◌/◌, length, Ok};
 ghost use Rattle.spec_c_dumper.specs.rules.Machine.{obind};
 ghost use Rattle.spec_type_table.specs.Table.{type_of};
 ghost use Rattle.spec_c_dumper.specs.origins.Causes.{entry, cause_at, entries_in};
 ghost use Rattle.c_dumper_dependency_order.specs.leaders.Leads.{entry_in};
 ghost use Rattle.c_dumper_emit.specs.entries.Noted.{cause_code, entry_of, entry_put, noted_out, note_n, note_if_n, shown_of};
 
-use base_bytes::put::{stop, stopped};
 use base_bytes::refusal::Refusal;
 use base_bytes::word::put_word;
 use btf_type_table::table::Table;
@@ -45,18 +44,18 @@ pub struct Origin {
     pub leader: u32,
 }
 
-// The requested id, which request of the call it is, and whether the call is lent a list of entries. Without one the list and the
-// leaders are empty slices.
+// A request in emission, with the leaders that ordering noted for it.
 #[derive(Clone, Copy)]
-pub struct Asked {
+pub struct Asked<'a> {
     pub req: u32,
     pub turn: u32,
     pub lists: bool,
+    pub leads: &'a [u64],
 }
 
 // The entry of a listed id.
-pub fn listed_origin(leads: &[u64], q: Asked, id: u32) -> Origin
-    ensures { entry_of result ≡ entry_in q.req q.turn leads.now id }
+pub fn listed_origin(q: &Asked, id: u32) -> Origin
+    ensures { entry_of result ≡ entry_in q.now.req q.now.turn q.now.leads.now id }
 {
     if id == q.req {
         return Origin {
@@ -68,16 +67,16 @@ pub fn listed_origin(leads: &[u64], q: Asked, id: u32) -> Origin
     Origin {
         id,
         cause: Cause::Needed,
-        leader: leader_of(leads, q.req, q.turn, id),
+        leader: leader_of(q.leads, q.req, q.turn, id),
     }
 }
 
 // At the top a line is there because its id is listed, within a container because of that.
-pub fn origin_at(leads: &[u64], q: Asked, within: Cause, id: u32, cont: u32) -> Origin
-    ensures { entry_of result ≡ cause_at (cause_code within) (entry_in q.req q.turn leads.now id) id cont }
+pub fn origin_at(q: &Asked, within: Cause, id: u32, cont: u32) -> Origin
+    ensures { entry_of result ≡ cause_at (cause_code within) (entry_in q.now.req q.now.turn q.now.leads.now id) id cont }
 {
     if cont == 0 {
-        return listed_origin(leads, q, id);
+        return listed_origin(q, id);
     }
     Origin {
         id,
@@ -107,34 +106,30 @@ fn put_entry(list: &mut [u8], k: usize, e: Origin)
 }
 
 // One more entry, or 17.
-fn note(text: &[u8], list: &mut [u8], p: Pen, e: Origin) -> Pen
-    ensures { (n : ℕ) (w : List ℕ) → noted_out n result text.now w list.new
-        ≡ obind (noted_out n p text.now w list.old) (λ m. note_n (entries_in list.old) (entry_of e) m) }
+fn note(list: &mut [u8], p: Pen, e: Origin) -> Result<Pen, Refusal>
+    ensures { (n : ℕ) (t w : List ℕ) → noted_out n result t w list.new
+        ≡ obind (noted_out n (Ok p) t w list.old) (λ m. note_n (entries_in list.old) (entry_of e) m) }
 {
-    if stopped(text, p.at) {
-        return p;
-    }
     if list.len() / 12 <= p.count {
-        let at = stop(text, p.at, u32::from(Refusal::TextFull));
-        return Pen { at, ..p };
+        return Err(Refusal::TextFull);
     }
     put_entry(list, p.count, e);
-    Pen {
+    Ok(Pen {
         at: p.at,
         count: p.count + 1,
-    }
+    })
 }
 
 // Of a line that prints nothing there is no entry.
-pub fn note_if(text: &[u8], list: &mut [u8], p: Pen, e: Origin, shown: bool) -> Pen
-    ensures { (n : ℕ) (w : List ℕ) → noted_out n result text.now w list.new
-        ≡ obind (noted_out n p text.now w list.old)
+pub fn note_if(list: &mut [u8], p: Pen, e: Origin, shown: bool) -> Result<Pen, Refusal>
+    ensures { (n : ℕ) (t w : List ℕ) → noted_out n result t w list.new
+        ≡ obind (noted_out n (Ok p) t w list.old)
         (λ m. note_if_n shown (entries_in list.old) (entry_of e) m) }
 {
     if shown {
-        return note(text, list, p, e);
+        return note(list, p, e);
     }
-    p
+    Ok(p)
 }
 
 // Whether the forward line or the typedef of a type prints anything: that of the compiler's own type does not.

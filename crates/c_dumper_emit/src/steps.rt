@@ -1,8 +1,6 @@
 // Emission, the steps that go on to no other id: a line that comes once, an id that is met again, a composite within another, and
 // the ends of a typedef and a composite. Emit states and forward flags stand in the work words.
-ghost use Rattle.std.specs.Prelude.{◌≡◌, not, eqb, ℕ, []};
-ghost use Rattle.spec_bytes.specs.Refusals.{refusal_number};
-ghost use Rattle.spec_bytes.specs.text.Text.{cut, put_out, put_text};
+ghost use Rattle.std.specs.Prelude.{◌≡◌, not, eqb, ℕ, Ok};
 ghost use Rattle.spec_c_dumper.specs.rules.Machine.{pick, obind};
 ghost use Rattle.spec_type_table.specs.Cells.{get_field, put_field};
 ghost use Rattle.spec_type_table.specs.Table.{type_of, btf_of};
@@ -14,7 +12,6 @@ ghost use Rattle.c_dumper_emit.specs.entries.Noted.{again_n, typedef_n, mentione
 
 use crate::entries::{Asked, Cause, Origin, Pen, forward_origin, listed_origin, origin_at};
 use crate::lines::{define, forward};
-use base_bytes::put::stop;
 use base_bytes::refusal::Refusal;
 use btf_type_table::cell;
 use btf_type_table::cell::{get_field, put_field};
@@ -66,29 +63,19 @@ fn emit_once(
     id: u32,
     t: BtfType,
     e: Origin,
-) -> Pen
+) -> Result<Pen, Refusal>
     ensures { (n : ℕ) → noted_out n result text.new work.new list.new
-        ≡ obind (noted_out n p text.old work.old list.old)
+        ≡ obind (noted_out n (Ok p) text.old work.old list.old)
         (λ m. once_n b.now.head (btf_of b.now.head b.now.section.now work.old) (lent_list lists list.old)
         (type_of b.now.head b.now.section.now t) (entry_of e)
         (has_n b.now.head (btf_of b.now.head b.now.section.now work.old) (lent_list lists list.old) m id) m id) }
 {
     if get_fwd_emitted(work, id) {
-        return p;
+        return Ok(p);
     }
-    let a = forward(b, work, text, list, lists, p, id, t, e);
+    let a = forward(b, work, text, list, lists, p, id, t, e)?;
     set_fwd_emitted(work, id);
-    a
-}
-
-// Stopped by a refusal.
-pub fn stop_at(text: &[u8], p: Pen, c: Refusal) -> Pen
-    ensures { put_out result.at text.now ≡ put_text text.now p.at (cut [] (refusal_number c)) }
-{
-    Pen {
-        at: stop(text, p.at, u32::from(c)),
-        count: p.count,
-    }
+    Ok(a)
 }
 
 // An id that is met while it is being emitted. A nameless composite never is, since ordering refuses its cycle.
@@ -97,37 +84,36 @@ pub fn emit_again(
     work: &mut [u8],
     text: &mut [u8],
     list: &mut [u8],
-    leads: &[u64],
-    q: Asked,
+    q: &Asked,
     p: Pen,
     id: u32,
     cont: u32,
-) -> Pen
+) -> Result<Pen, Refusal>
     ensures { (n : ℕ) → noted_out n result text.new work.new list.new
-        ≡ obind (noted_out n p text.old work.old list.old)
-        (λ m. again_n b.now.head (btf_of b.now.head b.now.section.now work.old) (lent_list q.lists list.old)
-        (entry_in q.req q.turn leads.now) cont m id) }
+        ≡ obind (noted_out n (Ok p) text.old work.old list.old)
+        (λ m. again_n b.now.head (btf_of b.now.head b.now.section.now work.old) (lent_list q.now.lists list.old)
+        (entry_in q.now.req q.now.turn q.now.leads.now) cont m id) }
 {
     if get_fwd_emitted(work, id) {
-        return p;
+        return Ok(p);
     }
     let t = b.type_by_id(work, id);
     match Kind::of(t.info) {
         Kind::Struct | Kind::Union => {
             if id == cont {
-                return p;
+                return Ok(p);
             }
             if !b.is_named(t) {
-                return stop_at(text, p, Refusal::Cycle);
+                return Err(Refusal::Cycle);
             }
             let e = forward_origin(id, cont);
             emit_once(b, work, text, list, q.lists, p, id, t, e)
         }
         Kind::Typedef => {
-            let e = origin_at(leads, q, Cause::EarlyTypedef, id, cont);
+            let e = origin_at(q, Cause::EarlyTypedef, id, cont);
             emit_once(b, work, text, list, q.lists, p, id, t, e)
         }
-        _ => p,
+        _ => Ok(p),
     }
 }
 
@@ -149,14 +135,14 @@ fn emit_mention(
     id: u32,
     t: BtfType,
     cont: u32,
-) -> Pen
+) -> Result<Pen, Refusal>
     ensures { (n : ℕ) → noted_out n result text.new work.new list.new
-        ≡ obind (noted_out n p text.old work.old list.old)
+        ≡ obind (noted_out n (Ok p) text.old work.old list.old)
         (λ m. mention_n b.now.head (btf_of b.now.head b.now.section.now work.old) (lent_list lists list.old)
         (type_of b.now.head b.now.section.now t) cont m id) }
 {
     if id == cont {
-        return p;
+        return Ok(p);
     }
     let e = forward_origin(id, cont);
     emit_once(b, work, text, list, lists, p, id, t, e)
@@ -173,16 +159,16 @@ pub fn mention_composite(
     id: u32,
     t: BtfType,
     cont: u32,
-) -> Pen
+) -> Result<Pen, Refusal>
     ensures { (n : ℕ) → noted_out n result text.new work.new list.new
-        ≡ obind (noted_out n p text.old work.old list.old)
+        ≡ obind (noted_out n (Ok p) text.old work.old list.old)
         (λ m. mentioned_n b.now.head (btf_of b.now.head b.now.section.now work.old) (lent_list lists list.old)
         (type_of b.now.head b.now.section.now t) cont m id) }
 {
     set_emit_state(work, id, EmitState::Emitting);
-    let a = emit_mention(b, work, text, list, lists, p, id, t, cont);
+    let a = emit_mention(b, work, text, list, lists, p, id, t, cont)?;
     set_emit_state(work, id, EmitState::NotEmitted);
-    a
+    Ok(a)
 }
 
 // What ends a typedef: its line, unless it had one.
@@ -191,22 +177,21 @@ pub fn end_typedef(
     work: &mut [u8],
     text: &mut [u8],
     list: &mut [u8],
-    leads: &[u64],
-    q: Asked,
+    q: &Asked,
     p: Pen,
     id: u32,
     t: BtfType,
     cont: u32,
-) -> Pen
+) -> Result<Pen, Refusal>
     ensures { (n : ℕ) → noted_out n result text.new work.new list.new
-        ≡ obind (noted_out n p text.old work.old list.old)
-        (λ m. typedef_n b.now.head (btf_of b.now.head b.now.section.now work.old) (lent_list q.lists list.old)
-        (type_of b.now.head b.now.section.now t) (cause_at 3 (entry_in q.req q.turn leads.now id) id cont) m id) }
+        ≡ obind (noted_out n (Ok p) text.old work.old list.old)
+        (λ m. typedef_n b.now.head (btf_of b.now.head b.now.section.now work.old) (lent_list q.now.lists list.old)
+        (type_of b.now.head b.now.section.now t) (cause_at 3 (entry_in q.now.req q.now.turn q.now.leads.now id) id cont) m id) }
 {
-    let e = origin_at(leads, q, Cause::EarlyTypedef, id, cont);
-    let a = emit_once(b, work, text, list, q.lists, p, id, t, e);
+    let e = origin_at(q, Cause::EarlyTypedef, id, cont);
+    let a = emit_once(b, work, text, list, q.lists, p, id, t, e)?;
     set_emit_state(work, id, EmitState::Emitted);
-    a
+    Ok(a)
 }
 
 // What ends a composite, after its members: its definition at the top; within another it is new again.
@@ -215,24 +200,23 @@ pub fn end_composite(
     work: &mut [u8],
     text: &mut [u8],
     list: &mut [u8],
-    leads: &[u64],
-    q: Asked,
+    q: &Asked,
     p: Pen,
     id: u32,
     t: BtfType,
     cont: u32,
-) -> Pen
+) -> Result<Pen, Refusal>
     ensures { (n : ℕ) → noted_out n result text.new work.new list.new
-        ≡ obind (noted_out n p text.old work.old list.old)
-        (λ m. ended_n b.now.head (btf_of b.now.head b.now.section.now work.old) (lent_list q.lists list.old) (eqb cont 0)
-        (type_of b.now.head b.now.section.now t) (entry_in q.req q.turn leads.now id) m id) }
+        ≡ obind (noted_out n (Ok p) text.old work.old list.old)
+        (λ m. ended_n b.now.head (btf_of b.now.head b.now.section.now work.old) (lent_list q.now.lists list.old) (eqb cont 0)
+        (type_of b.now.head b.now.section.now t) (entry_in q.now.req q.now.turn q.now.leads.now id) m id) }
 {
     if cont != 0 {
         set_emit_state(work, id, EmitState::NotEmitted);
-        return p;
+        return Ok(p);
     }
-    let e = listed_origin(leads, q, id);
-    let a = define(b, work, text, list, q.lists, p, id, t, e);
+    let e = listed_origin(q, id);
+    let a = define(b, work, text, list, q.lists, p, id, t, e)?;
     set_emit_state(work, id, EmitState::Emitted);
-    a
+    Ok(a)
 }

@@ -1,12 +1,14 @@
 // Declaration tags and type tags.
-ghost use Rattle.std.specs.Prelude.{◌≡◌};
-ghost use Rattle.spec_bytes.specs.text.Text.{whole, put_out, put_text};
+ghost use Rattle.std.specs.Prelude.{◌≡◌, Ok};
+ghost use Rattle.spec_bytes.specs.text.Text.{whole};
+ghost use Rattle.spec_bytes.specs.text.Placed.{put_out, put_text};
 ghost use Rattle.base_keywords.specs.table.Fixed.{tag_name};
 ghost use Rattle.spec_c_dumper.specs.rules.Decl.{attribute, decl_tag, decl_tags};
 ghost use Rattle.spec_type_table.specs.Names.{str_at};
 ghost use Rattle.spec_type_table.specs.Table.{btf_of};
 
-use base_bytes::put::{put_bytes, put_two};
+use base_bytes::put::put_bytes;
+use base_bytes::refusal::Refusal;
 use base_keywords::table::{Word, put_word};
 use btf_type_table::cell;
 use btf_type_table::cell::get_field;
@@ -18,8 +20,8 @@ use spec_type_table::Kind;
 // The component index of a tag that is on the whole type: -1.
 pub const WHOLE_TYPE: u32 = u32::MAX;
 
-fn put_tag_name(text: &mut [u8], at: usize, is_decl: bool) -> usize
-    ensures { put_out result text.new ≡ put_text text.old at (whole (tag_name is_decl)) }
+fn put_tag_name(text: &mut [u8], at: usize, is_decl: bool) -> Result<usize, Refusal>
+    ensures { put_out result text.new ≡ put_text text.old (Ok at) (whole (tag_name is_decl)) }
 {
     if is_decl {
         return put_word(text, at, Word::DeclTag);
@@ -35,21 +37,20 @@ pub fn put_attribute(
     is_attr: bool,
     is_decl: bool,
     name_off: u32,
-) -> usize
+) -> Result<usize, Refusal>
     ensures { put_out result text.new
-        ≡ put_text text.old at (whole (attribute is_attr (tag_name is_decl) (str_at b.now.head b.now.section.now name_off))) }
+        ≡ put_text text.old (Ok at) (whole (attribute is_attr (tag_name is_decl) (str_at b.now.head b.now.section.now name_off))) }
 {
-    let a = put_word(text, at, Word::AttributeStart);
+    let a = put_word(text, at, Word::AttributeStart)?;
     let name = b.get_btf_str(name_off);
     if is_attr {
-        let c = put_bytes(text, a, name);
-        return put_two(text, c, b')', b')');
+        let c = put_bytes(text, a, name)?;
+        return put_bytes(text, c, b"))");
     }
-    let d = put_tag_name(text, a, is_decl);
-    let e = put_two(text, d, b'(', b'"');
-    let f = put_escaped(text, e, name);
-    let g = put_two(text, f, b'"', b')');
-    put_two(text, g, b')', b')')
+    let d = put_tag_name(text, a, is_decl)?;
+    let e = put_bytes(text, d, b"(\"")?;
+    let f = put_escaped(text, e, name)?;
+    put_bytes(text, f, b"\")))")
 }
 
 // The DECL_TAG id, if its component is the one asked for.
@@ -60,17 +61,17 @@ fn emit_decl_tag(
     at: usize,
     id: u32,
     comp_idx: u32,
-) -> usize
+) -> Result<usize, Refusal>
     ensures { put_out result text.new
-        ≡ put_text text.old at (whole
+        ≡ put_text text.old (Ok at) (whole
         (decl_tag comp_idx ((btf_of b.now.head b.now.section.now work.now).type_by_id id))) }
 {
     let t = b.type_by_id(work, id);
     if Kind::of(t.info) != Kind::DeclTag {
-        return at;
+        return Ok(at);
     }
     if b.comp_idx_of(t) != comp_idx {
-        return at;
+        return Ok(at);
     }
     put_attribute(b, text, at, kind_flag_of(t.info), true, t.name_off)
 }
@@ -84,9 +85,9 @@ fn emit_tag_list(
     at: usize,
     id: u32,
     comp_idx: u32,
-) -> usize
+) -> Result<usize, Refusal>
     ensures { put_out result text.new
-        ≡ put_text text.old at (whole
+        ≡ put_text text.old (Ok at) (whole
         (decl_tags (btf_of b.now.head b.now.section.now work.now) comp_idx
         ((btf_of b.now.head b.now.section.now work.now).decl_tags id))) }
 {
@@ -96,13 +97,13 @@ fn emit_tag_list(
     // A `while`: a list in the lent work goes by its links.
     while last < tag {
         if b.head.types <= tag {
-            return p;
+            return Ok(p);
         }
-        p = emit_decl_tag(b, work, text, p, tag, comp_idx);
+        p = emit_decl_tag(b, work, text, p, tag, comp_idx)?;
         last = tag;
         tag = get_field(work, tag, cell::NEXT_TAG);
     }
-    p
+    Ok(p)
 }
 
 // The same; most types have no tag.
@@ -113,14 +114,14 @@ pub fn emit_decl_tags(
     at: usize,
     id: u32,
     comp_idx: u32,
-) -> usize
+) -> Result<usize, Refusal>
     ensures { put_out result text.new
-        ≡ put_text text.old at (whole
+        ≡ put_text text.old (Ok at) (whole
         (decl_tags (btf_of b.now.head b.now.section.now work.now) comp_idx
         ((btf_of b.now.head b.now.section.now work.now).decl_tags id))) }
 {
     if get_field(work, id, cell::FIRST_TAG) == 0 {
-        return at;
+        return Ok(at);
     }
     emit_tag_list(b, work, text, at, id, comp_idx)
 }

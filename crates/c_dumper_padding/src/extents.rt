@@ -31,7 +31,7 @@ fn round_up(n: u32, a: u32) -> u64
         return 0;
     }
     let k = (a as u64) * 8;
-    ((n as u64) + (k - 1)) / k * k
+    (n as u64).div_ceil(k) * k
 }
 
 // Whether bits from a start on lie in one unit of a type of so many bytes.
@@ -40,13 +40,7 @@ fn same_unit(size: u32, start: u32, width: u32) -> bool
 {
     let unit = (size as u64) * 8;
     let end = (start as u64) + (width as u64);
-    if unit == 0 {
-        return true;
-    }
-    if end == 0 {
-        return true;
-    }
-    (start as u64) / unit == (end - 1) / unit
+    (start as u64).checked_div(unit) == end.saturating_sub(1).checked_div(unit)
 }
 
 fn field_fits(packed: bool, size: u32, bit_offset: u32, bit_size: u32) -> bool

@@ -1,6 +1,7 @@
 // Pads before a member, and in placing mode after the last.
-ghost use Rattle.std.specs.Prelude.{◌≡◌, ◌*◌, ◌-◌, eqb};
-ghost use Rattle.spec_bytes.specs.text.Text.{whole, put_out, put_text};
+ghost use Rattle.std.specs.Prelude.{◌≡◌, ◌*◌, ◌-◌, eqb, Ok};
+ghost use Rattle.spec_bytes.specs.text.Text.{whole};
+ghost use Rattle.spec_bytes.specs.text.Placed.{put_out, put_text};
 ghost use Rattle.spec_c_dumper.specs.rules.Layout.{pads_before};
 ghost use Rattle.spec_c_dumper.specs.rules.Placing.{tail_pads};
 ghost use Rattle.spec_c_dumper.specs.rules.Decl.{pads, tail_text};
@@ -11,7 +12,8 @@ ghost use Rattle.c_dumper_padding.specs.pads.Texts.{lone_line};
 ghost use Rattle.c_dumper_padding.specs.padding.Asking.{pad_said};
 
 use crate::pads::put_pads;
-use base_bytes::put::{put_byte, stop};
+use base_bytes::put::put_byte;
+use base_bytes::refusal::Refusal;
 use btf_layout::asked::gap_align;
 use btf_type_table::kind::is_struct;
 use btf_type_table::table::Table;
@@ -27,14 +29,14 @@ fn put_gap(
     gap: u32,
     a: u32,
     lvl: u32,
-) -> usize
+) -> Result<usize, Refusal>
     ensures { put_out result text.new
-        ≡ put_text text.old at (whole (pads lvl (pads_before b.placing b.ptr_sz start bit_size gap a))) }
+        ≡ put_text text.old (Ok at) (whole (pads lvl (pads_before b.placing b.ptr_sz start bit_size gap a))) }
 {
     let from = start as u64;
     let width = gap as u64;
     if bit_size == 0 && width < (a as u64) * 8 {
-        return at;
+        return Ok(at);
     }
     put_pads(text, at, b.placing, b.ptr_sz, from, from + width, lvl)
 }
@@ -48,27 +50,25 @@ pub fn emit_bit_padding(
     m: BtfMember,
     packed: bool,
     lvl: u32,
-) -> usize
+) -> Result<usize, Refusal>
     ensures { out_of result text.new work.new
-        ≡ put_said text.old at (pad_said b.now.head.types (btf_of b.now.head b.now.section.now work.old) offset
+        ≡ put_said text.old (Ok at) (pad_said b.now.head.types (btf_of b.now.head b.now.section.now work.old) offset
         (rule_member b.now.head b.now.section.now m) packed lvl work.old) }
 {
     let end = m.bit_offset;
     if end <= offset {
-        return at;
+        return Ok(at);
     }
-    match gap_align(b, work, m.type_id, packed) {
-        Ok(a) => put_gap(b.head, text, at, offset, m.bit_size, end - offset, a, lvl),
-        Err(c) => stop(text, at, u32::from(c)),
-    }
+    let a = gap_align(b, work, m.type_id, packed)?;
+    put_gap(b.head, text, at, offset, m.bit_size, end - offset, a, lvl)
 }
 
 // A newline, where no member gave the closing bracket a line of its own.
-fn put_own_line(text: &mut [u8], at: usize, members: u32) -> usize
-    ensures { put_out result text.new ≡ put_text text.old at (whole (lone_line members)) }
+fn put_own_line(text: &mut [u8], at: usize, members: u32) -> Result<usize, Refusal>
+    ensures { put_out result text.new ≡ put_text text.old (Ok at) (whole (lone_line members)) }
 {
     if members != 0 {
-        return at;
+        return Ok(at);
     }
     put_byte(text, at, b'\n')
 }
@@ -82,22 +82,22 @@ pub fn emit_tail_padding(
     members: u32,
     offset: u32,
     lvl: u32,
-) -> usize
+) -> Result<usize, Refusal>
     ensures { put_out result text.new
-        ≡ put_text text.old at (whole
+        ≡ put_text text.old (Ok at) (whole
         (tail_text lvl members (tail_pads b.placing b.ptr_sz (eqb (kind_of t.info) 4) t.type_id offset))) }
 {
     if !b.placing {
-        return at;
+        return Ok(at);
     }
     if !is_struct(t) {
-        return at;
+        return Ok(at);
     }
     let end = (t.type_id as u64) * 8;
     let is_full = end <= (offset as u64);
     if is_full {
-        return at;
+        return Ok(at);
     }
-    let a = put_pads(text, at, b.placing, b.ptr_sz, offset as u64, end, lvl);
+    let a = put_pads(text, at, b.placing, b.ptr_sz, offset as u64, end, lvl)?;
     put_own_line(text, a, members)
 }

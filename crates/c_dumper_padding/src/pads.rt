@@ -1,16 +1,18 @@
 // The lines of the pads of a gap, in both modes.
-ghost use Rattle.std.specs.Prelude.{◌≡◌, ◌-◌};
-ghost use Rattle.spec_bytes.specs.text.Text.{whole, put_out, put_text};
+ghost use Rattle.std.specs.Prelude.{◌≡◌, ◌-◌, Ok};
+ghost use Rattle.spec_bytes.specs.text.Text.{whole};
+ghost use Rattle.spec_bytes.specs.text.Placed.{put_out, put_text};
 ghost use Rattle.spec_c_dumper.specs.rules.Decl.{unit_word, pads};
 ghost use Rattle.c_dumper_padding.specs.units.Units.{unit_of, pad_is, pads_by};
 ghost use Rattle.c_dumper_padding.specs.pads.Texts.{pad_line};
 
 use crate::units::{Pad, Unit, next_pad};
-use base_bytes::put::{put_byte, put_decimal, put_tabs, put_two, stopped};
+use base_bytes::put::{put_byte, put_bytes, put_decimal, put_tabs};
+use base_bytes::refusal::Refusal;
 use base_keywords::table::{Word, put_word};
 
-fn put_unit(text: &mut [u8], at: usize, unit: Unit) -> usize
-    ensures { put_out result text.new ≡ put_text text.old at (whole (unit_word (unit_of unit))) }
+fn put_unit(text: &mut [u8], at: usize, unit: Unit) -> Result<usize, Refusal>
+    ensures { put_out result text.new ≡ put_text text.old (Ok at) (whole (unit_word (unit_of unit))) }
 {
     match unit {
         Unit::Long => put_word(text, at, Word::Long),
@@ -20,14 +22,14 @@ fn put_unit(text: &mut [u8], at: usize, unit: Unit) -> usize
     }
 }
 
-fn put_pad(text: &mut [u8], at: usize, pad: Pad, lvl: u32) -> usize
-    ensures { put_out result text.new ≡ put_text text.old at (whole (pad_line lvl (pad_is pad))) }
+fn put_pad(text: &mut [u8], at: usize, pad: Pad, lvl: u32) -> Result<usize, Refusal>
+    ensures { put_out result text.new ≡ put_text text.old (Ok at) (whole (pad_line lvl (pad_is pad))) }
 {
-    let a = put_byte(text, at, b'\n');
-    let c = put_tabs(text, a, lvl);
-    let d = put_unit(text, c, pad.unit);
-    let e = put_two(text, d, b':', b' ');
-    let f = put_decimal(text, e, pad.width);
+    let a = put_byte(text, at, b'\n')?;
+    let c = put_tabs(text, a, lvl)?;
+    let d = put_unit(text, c, pad.unit)?;
+    let e = put_bytes(text, d, b": ")?;
+    let f = put_decimal(text, e, pad.width)?;
     put_byte(text, f, b';')
 }
 
@@ -40,19 +42,16 @@ pub fn put_pads(
     start: u64,
     end: u64,
     lvl: u32,
-) -> usize
+) -> Result<usize, Refusal>
     ensures { put_out result text.new
-        ≡ put_text text.old at (whole (pads lvl (pads_by placing ptr_sz start (end - start)))) }
+        ≡ put_text text.old (Ok at) (whole (pads lvl (pads_by placing ptr_sz start (end - start)))) }
 {
     let mut p = at;
     let mut s = start;
     while s < end {
-        if stopped(text, p) {
-            return p;
-        }
         let pad = next_pad(placing, ptr_sz, s, end - s);
-        p = put_pad(text, p, pad, lvl);
+        p = put_pad(text, p, pad, lvl)?;
         s += pad.width;
     }
-    p
+    Ok(p)
 }

@@ -16,9 +16,7 @@ use Rattle.spec_c_dumper.specs.names_apart.Apart.{apart, none_shown}
 use Rattle.spec_c_dumper.specs.origins.Causes.{ids_from}
 use Rattle.spec_opening.specs.Causes.{opening_number}
 use Rattle.spec_opening.specs.Described.{table_in}
-use Rattle.spec_session.specs.declared.session.Answer.{Answer}
-use Rattle.spec_session.specs.declared.session.Answer.TheVariants.{Refused}
-use Rattle.spec_session.specs.session.Answers.{number_of, value_of}
+use Rattle.spec_session.specs.session.Answers.{Answer, Refused, number_of, value_of}
 use Rattle.spec_session.specs.session.Turns.{Call, unchanged}
 use Rattle.proof_demands.specs.name_counts.Passed.{passed}
 use Rattle.proof_demands.specs.demands.Table.{names_in}
@@ -31,7 +29,7 @@ use Rattle.proof_calls.proofs.mixed.Plain.{type_plain, types_plain, list_plain}
 use Rattle.proof_calls.proofs.mixed.Closed.{type_shut, types_shut, list_shut}
 use Rattle.proof_calls.proofs.mixed.Claims.{calls_mixed}
 use Rattle.proof_calls.proofs.described.Table.{over_described, described_wf}
-use Rattle.claims.specs.Calls.{ids_in, singles, Lent, After}
+use Rattle.claims.specs.Calls.{ids_in, singles, Lent}
 use Rattle.claims.specs.Demand2.{Eleven}
 use Rattle.claims.specs.Demands.{ruled}
 use Rattle.claims.specs.Carried.{Aid, ceiling, list, ending, Stands, SomeStand, Carried, ClosedTo, Carries}

@@ -19,8 +19,7 @@ use Rattle.spec_c_dumper.specs.rules.Machine.{Machine, Sess, Answer, Req, one, a
 use Rattle.spec_opening.specs.Causes.{opening_number}
 use Rattle.spec_opening.specs.Opened.{Outcome}
 use Rattle.spec_session.specs.declared.session.Session.{Session}
-use Rattle.spec_session.specs.declared.session.Answer.TheVariants.{Refused}
-use Rattle.spec_session.specs.session.Answers.{number_of, value_of, answer_of as told}
+use Rattle.spec_session.specs.session.Answers.{Refused, number_of, value_of, answer_of as told}
 use Rattle.spec_session.specs.session.Turns.{Call, call_of, then_zeros, unchanged}
 use Rattle.spec_session.specs.calls.Calls as calls_of
 use Rattle.spec_session.proofs.calls.Laws.{opens_refused}
@@ -52,7 +51,7 @@ use Rattle.claims.specs.Demands.{ruled, Demands, Stated}
 use Rattle.claims.specs.Ours.{on_session, for_c}
 use Rattle.proof_calls.proofs.described.Table.{over_described, described_wf}
 use Rattle.claims.proofs.Opens.{numbered}
-use Rattle.claims.proofs.Names.{taken, plain_are, passed_are, listed, same_text, next_number_lem, next_text, same_open}
+use Rattle.claims.proofs.Names.{taken, plain_are, passed_are, same_text, next_number_lem, next_text, same_open}
 
 -- one request more
 run_more : {M : Type 0} (X : Machine M) (T : Table) (rs : List Req) (r : Req) (S : Sess M) → run X T (rs ++ (r ∷ [])) S ≡ serve X T (run X T rs S) r

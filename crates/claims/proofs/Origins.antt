@@ -41,7 +41,7 @@ use Rattle.proof_calls.specs.line_origins.Claims as work
 use Rattle.proof_calls.proofs.line_origins.Claims.{calls_reasoned}
 use Rattle.proof_calls.proofs.line_origins.Alike.{BothCauses, one_causes_lem, list_causes_lem, all_causes_lem}
 use Rattle.proof_calls.proofs.described.Table.{over_shown, described_wf}
-use Rattle.claims.specs.Calls.{ids_in, Lent, After}
+use Rattle.claims.specs.Calls.{ids_in, Lent}
 use Rattle.claims.specs.Demand2.{Tells}
 use Rattle.claims.specs.Demands.{ruled}
 use Rattle.claims.specs.Request12_line_origins.{Listing, Agrees, ByRules, Explains, Reasoned, Request12}

@@ -4,10 +4,11 @@ ghost use Rattle.spec_bytes.specs.words.Words.{words};
 ghost use Rattle.spec_opening.specs.Table.{empty_index};
 ghost use Rattle.spec_opening.specs.Causes.{cause2, cause3, cause4, first_of};
 ghost use Rattle.session_cut_marks.specs.marks.Marks.{all_zero, ids_of};
+ghost use Rattle.spec_session.specs.session.Answers.{alone};
 ghost use Rattle.session_cut.specs.writer.Bytes.{wrote_of, kept_written};
 ghost use Rattle.spec_cut.specs.section.Section.{any_past};
 ghost use Rattle.session_cut.specs.call.Calls.{cut_of, cut_call};
-ghost use Rattle.session_cut.specs.call.Code.{checked_out, checked_of, answer_to};
+ghost use Rattle.session_cut.specs.call.Code.{checked_out, checked_of};
 
 use crate::writer::write_kept;
 use base_bytes::limit;
@@ -20,7 +21,7 @@ use btf_type_table::table::Table;
 use session_cut_marks::kept::Kept;
 use session_cut_marks::marks::number_kept;
 use spec_bytes::refusal::Refusal;
-use spec_session::session::{Answer, Session};
+use spec_session::session::Session;
 
 // Whether the session is open on a section of this length.
 fn is_open(s: Session, len: usize) -> bool
@@ -86,9 +87,9 @@ fn write_cut(b: &Table, start: &[u32], given: &[u8], out: &mut [u8]) -> Option<u
     write_kept(&kept, out)
 }
 
-// The same as the call, with the refusal itself.
-fn cut_section(s: Session, section: &[u8], given: &[u8], out: &mut [u8]) -> Result<u32, Refusal>
-    ensures { cut_of (answer_to result) out.new ≡ cut_call s section.now given.now out.old }
+// Writes the section that holds what is reachable from the given ids, four bytes each, least significant first: its length.
+pub fn cut(s: Session, section: &[u8], given: &[u8], out: &mut [u8]) -> Result<u32, Refusal>
+    ensures { cut_of (alone result) out.new ≡ cut_call s section.now given.now out.old }
 {
     if !is_open(s, section.len()) {
         return Err(Refusal::SessionClosed);
@@ -100,14 +101,4 @@ fn cut_section(s: Session, section: &[u8], given: &[u8], out: &mut [u8]) -> Resu
     }
     let head = btf_of(section, s.pointer_size, 0, n);
     write_cut(&Table { head, section }, &start, given, out).ok_or(Refusal::OutputShort)
-}
-
-// Writes the section that holds what is reachable from the given ids, four bytes each, least significant first: its length.
-pub fn cut(s: Session, section: &[u8], given: &[u8], out: &mut [u8]) -> Answer
-    ensures { cut_of result out.new ≡ cut_call s section.now given.now out.old }
-{
-    match cut_section(s, section, given, out) {
-        Ok(len) => Answer::Accepted(len),
-        Err(refusal) => Answer::Refused(u32::from(refusal), 0),
-    }
 }

@@ -2,7 +2,7 @@
 ghost use Rattle.std.specs.Prelude.{◌≡◌, get_or};
 ghost use Rattle.btf_open_causes.specs.references.Followed.{entry_at};
 
-use crate::peek::peek;
+use base_bytes::element::peek;
 use btf_type_table::table::Table;
 
 // A section with the index of its records, and the new id of each type: 0 for what is not kept.

@@ -5,6 +5,5 @@ pub mod interned;
 pub mod kept;
 pub mod marks;
 pub mod mentioned;
-pub mod peek;
 pub mod roles;
 pub mod tags;

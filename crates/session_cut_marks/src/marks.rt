@@ -6,8 +6,8 @@ ghost use Rattle.btf_open_causes.specs.references.Followed.{followed_count, foll
 ghost use Rattle.session_cut_marks.specs.marks.Marks.{pushed, pushed_to, weight, closed, ids_of};
 ghost use Rattle.session_cut_marks.specs.marks.Marking.{heap_of, SameSlices};
 
-use crate::peek::peek;
 use crate::tags::{mark_tags, number};
+use base_bytes::element::peek;
 use base_bytes::limit;
 use base_bytes::word::get_word;
 use btf_open_causes::references::{count_at, entry, id_at};

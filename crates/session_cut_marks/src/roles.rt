@@ -2,7 +2,7 @@
 ghost use Rattle.std.specs.Prelude.{◌≡◌};
 ghost use Rattle.session_cut_marks.specs.roles.Words.{digit_at, fixed_words, entry_words, column, role, role_of, words_in, word_of};
 
-use crate::peek::peek;
+use base_bytes::element::peek;
 use btf_type_table::kind::vlen_of;
 use btf_type_table::table::Table;
 

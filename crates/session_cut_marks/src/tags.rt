@@ -3,7 +3,7 @@ ghost use Rattle.std.specs.Prelude.{◌≡◌, ◌<◌};
 ghost use Rattle.btf_open_causes.specs.references.Followed.{type_count};
 ghost use Rattle.session_cut_marks.specs.tags.Tags.{some_number, tag_on, tagged_at, tagged_to, numbered, numbered_at, numbers_of};
 
-use crate::peek::peek;
+use base_bytes::element::{peek, store};
 use base_bytes::limit;
 use btf_open_causes::references::{count, entry, kind_at};
 use btf_type_table::table::Table;
@@ -38,10 +38,7 @@ fn mark_tag(b: &Table, start: &[u32], marks: &mut [u32], x: u32)
     if peek(marks, t as usize, 0) == 0 {
         return;
     }
-    let at = x as usize;
-    if at < marks.len() {
-        marks[at] = 1;
-    }
+    store(marks, x as usize, 1);
 }
 
 pub fn mark_tags(b: &Table, start: &[u32], marks: &mut [u32])

@@ -2,6 +2,7 @@
 // four bytes each, least significant first.
 ghost use Rattle.std.specs.Prelude.{◌≡◌, ◌-◌, ◌≤◌};
 ghost use Rattle.spec_type_table.specs.Table.{btf_of, type_of};
+ghost use Rattle.spec_session.specs.session.Answers.{alone};
 ghost use Rattle.session_field_at_bit.specs.step.Path.{shape_of, is_composite, behind, path_from, field_path};
 ghost use Rattle.session_field_at_bit.specs.field.Calls.{found_of, lent_path, field_call};
 ghost use Rattle.session_field_at_bit.specs.step.Code.{shape_is, asked, led_to};
@@ -13,7 +14,7 @@ use base_bytes::refusal::Refusal;
 use btf_open_causes::header::btf_of;
 use btf_type_table::table::Table;
 use session_record::settle::is_current;
-use spec_session::session::{Answer, Session};
+use spec_session::session::Session;
 use spec_type_table::{BtfType, Kind};
 
 #[tactic(auto, using(spec_type_table::proofs::KindTypes::kind_types), unfolding(crate::specs::step::Code::shape_is, crate::specs::step::Path::shape_of))]
@@ -50,7 +51,7 @@ fn behind(b: &Table, work: &[u8], id: u32, left: u32) -> Shape
 
 // The path inside a type after n entries: its whole length. Entries are written on the way back, when the length is known, so
 // that a refusal leaves the lent path as it was.
-fn walk(b: &Table, work: &[u8], path: &mut [u8], id: u32, bit: u32, n: u32) -> Result<u32, u32>
+fn walk(b: &Table, work: &[u8], path: &mut [u8], id: u32, bit: u32, n: u32) -> Result<u32, Refusal>
     requires { n ≤ 512 }
     ensures { led_to (asked result) path.new
         ≡ written path.old n (path_from (512 - n) (btf_of b.now.head b.now.section.now work.now) id bit) }
@@ -61,7 +62,7 @@ fn walk(b: &Table, work: &[u8], path: &mut [u8], id: u32, bit: u32, n: u32) -> R
         Step::Stay => Ok(n),
         Step::Field(k) => {
             if n == limit::MOST_CALLS {
-                return Err(u32::from(Refusal::TooDeep));
+                return Err(Refusal::TooDeep);
             }
             put_entry(path, n, k, n + 1);
             Ok(n + 1)
@@ -72,7 +73,7 @@ fn walk(b: &Table, work: &[u8], path: &mut [u8], id: u32, bit: u32, n: u32) -> R
             bit,
         } => {
             if n == limit::MOST_CALLS {
-                return Err(u32::from(Refusal::TooDeep));
+                return Err(Refusal::TooDeep);
             }
             let len = walk(b, work, path, type_id, bit, n + 1)?;
             put_entry(path, n, entry, len);
@@ -82,30 +83,28 @@ fn walk(b: &Table, work: &[u8], path: &mut [u8], id: u32, bit: u32, n: u32) -> R
 }
 
 // The answer to a path of this length in room for so many entries.
-fn answer_to(room: usize, len: u32) -> Answer
-    ensures { result ≡ answer_to room len }
+fn answer_to(room: usize, len: u32) -> Result<u32, Refusal>
+    ensures { alone result ≡ answer_to room len }
 {
     if len == 0 {
-        return Answer::Refused(u32::from(Refusal::NoField), 0);
+        return Err(Refusal::NoField);
     }
     if room < (len as usize) {
-        return Answer::Refused(u32::from(Refusal::TextFull), 0);
+        return Err(Refusal::TextFull);
     }
-    Answer::Accepted(len)
+    Ok(len)
 }
 
 // The path of a bit of a type, which is to be a composite.
-fn find_field(b: &Table, work: &[u8], path: &mut [u8], id: u32, bit: u32) -> Answer
-    ensures { found_of result path.new
+fn find_field(b: &Table, work: &[u8], path: &mut [u8], id: u32, bit: u32) -> Result<u32, Refusal>
+    ensures { found_of (alone result) path.new
         ≡ lent_path path.old (field_path (btf_of b.now.head b.now.section.now work.now) id bit) }
 {
     if !is_composite(b, b.type_by_id(work, id)) {
-        return Answer::Refused(u32::from(Refusal::NoField), 0);
+        return Err(Refusal::NoField);
     }
-    match walk(b, work, path, id, bit, 0) {
-        Ok(len) => answer_to(path.len() / 4, len),
-        Err(c) => Answer::Refused(c, 0),
-    }
+    let len = walk(b, work, path, id, bit, 0)?;
+    answer_to(path.len() / 4, len)
 }
 
 // The path to the innermost plain member or bit field that covers a bit of a composite. The session is only read: no refusal
@@ -117,14 +116,14 @@ pub fn which_field(
     path: &mut [u8],
     id: u32,
     bit: u32,
-) -> Answer
-    ensures { found_of result path.new ≡ field_call s section.now work.now path.old id bit }
+) -> Result<u32, Refusal>
+    ensures { found_of (alone result) path.new ≡ field_call s section.now work.now path.old id bit }
 {
     if !is_current(s, section.len(), work.len(), s.text_len as usize) {
-        return Answer::Refused(u32::from(Refusal::SessionClosed), 0);
+        return Err(Refusal::SessionClosed);
     }
     if s.types <= id {
-        return Answer::Refused(u32::from(Refusal::NoSuchId), 0);
+        return Err(Refusal::NoSuchId);
     }
     let head = btf_of(section, s.pointer_size, s.modes, s.types);
     find_field(&Table { head, section }, work, path, id, bit)

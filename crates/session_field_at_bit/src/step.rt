@@ -7,6 +7,7 @@ ghost use Rattle.session_field_at_bit.specs.step.Path.{tried, placed, step_in};
 ghost use Rattle.session_field_at_bit.specs.step.Code.{shape_is, step_is, step_asked, member_step, entry_put};
 
 use base_bytes::limit;
+use base_bytes::refusal::Refusal;
 use base_bytes::word::put_word;
 use btf_layout::member_end::member_end;
 use btf_layout::size::get_size_of;
@@ -54,19 +55,17 @@ fn member_step(m: BtfMember, k: u32, end: u32, bit: u32) -> Step
 }
 
 // The same; its size is asked first.
-fn try_member(b: &Table, work: &[u8], m: BtfMember, k: u32, bit: u32) -> Result<Step, u32>
+fn try_member(b: &Table, work: &[u8], m: BtfMember, k: u32, bit: u32) -> Result<Step, Refusal>
     ensures { step_asked result
         ≡ ask_then (end_of (btf_of b.now.head b.now.section.now work.now) (rule_member b.now.head b.now.section.now m))
         (λ end. got (member_step m k end bit)) }
 {
-    match member_end(b, work, m) {
-        Ok(end) => Ok(member_step(m, k, end, bit)),
-        Err(c) => Err(u32::from(c)),
-    }
+    let end = member_end(b, work, m)?;
+    Ok(member_step(m, k, end, bit))
 }
 
 // The first member that covers the bit.
-fn find_member(b: &Table, work: &[u8], t: BtfType, bit: u32) -> Result<Step, u32>
+fn find_member(b: &Table, work: &[u8], t: BtfType, bit: u32) -> Result<Step, Refusal>
     ensures { step_asked result ≡ tried (btf_of b.now.head b.now.section.now work.now) bit 0 (members_of b.now.head b.now.section.now t) }
 {
     for k in 0..vlen_of(t.info) {
@@ -95,17 +94,15 @@ fn place_of(t: u32, size: u32, bit: u32) -> Step
     }
 }
 
-fn find_place(b: &Table, work: &[u8], t: u32, bit: u32) -> Result<Step, u32>
+fn find_place(b: &Table, work: &[u8], t: u32, bit: u32) -> Result<Step, Refusal>
     ensures { step_asked result
         ≡ ask_then (get_size_of 512 (btf_of b.now.head b.now.section.now work.now) t) (λ size. got (placed t size bit)) }
 {
-    match get_size_of(b, work, t, limit::MOST_CALLS) {
-        Ok(size) => Ok(place_of(t, size, bit)),
-        Err(c) => Err(u32::from(c)),
-    }
+    let size = get_size_of(b, work, t, limit::MOST_CALLS)?;
+    Ok(place_of(t, size, bit))
 }
 
-pub fn next_step(b: &Table, work: &[u8], shape: Shape, bit: u32) -> Result<Step, u32>
+pub fn next_step(b: &Table, work: &[u8], shape: Shape, bit: u32) -> Result<Step, Refusal>
     ensures { step_asked result ≡ step_in (btf_of b.now.head b.now.section.now work.now) bit (shape_is b.now.head b.now.section.now shape) }
 {
     match shape {

@@ -1,11 +1,12 @@
 // Where a request may write, where it came to, and how a list of ids ends.
 ghost use Rattle.std.specs.Prelude.{◌≡◌, ◌+◌};
+ghost use Rattle.spec_session.specs.session.Answers.{answer_is};
 ghost use Rattle.spec_session.specs.session.Turns.{call_of};
 ghost use Rattle.spec_session.specs.calls.Calls.{limit_of};
 ghost use Rattle.spec_session.specs.calls.Lists.{count_in, tailed, list_end};
 ghost use Rattle.session_record.specs.arrival.Arrival.{clipped, arrived_in};
 
-use crate::settle::{answer_of, clear_from, with_text};
+use crate::settle::{answer_of, clear_from, stays_open, with_text};
 use base_bytes::limit;
 use base_bytes::refusal::Refusal;
 use base_bytes::word::clear;
@@ -35,22 +36,22 @@ fn sum(a: u32, n: usize) -> u32
     u32::try_from((a as usize).saturating_add(n)).unwrap_or(u32::MAX)
 }
 
-// What a place in a slice of so many bytes says, after a text of len bytes and so many visits: the new length, or a refusal.
+// What the place where a request ended says, after a text of len bytes and so many visits: the new length, or the refusal.
 #[tactic(auto, unfolding(crate::specs::arrival::Arrival::arrived_in))]
-pub fn arrived(len: u32, visits: u32, room: usize, at: usize) -> Reached
-    ensures { result ≡ arrived_in len visits room at }
+pub fn arrived(len: u32, visits: u32, end: Result<usize, Refusal>) -> Reached
+    ensures { result ≡ arrived_in len visits end }
 {
-    if at <= room {
-        return Reached {
+    match end {
+        Ok(at) => Reached {
             len: sum(len, at),
-            number: 0,
-            visits: visits,
-        };
-    }
-    Reached {
-        len: len,
-        number: sum(0, at - room - 1),
-        visits: visits,
+            stop: None,
+            visits,
+        },
+        Err(refusal) => Reached {
+            len,
+            stop: Some(refusal),
+            visits,
+        },
     }
 }
 
@@ -74,15 +75,15 @@ fn clear_after(text: &mut [u8], accepted: u32, len: u32)
     clear_from(text, len);
 }
 
-// The end of a call with a list: 10 leaves what the accepted ids left, 12 to 17 close the session.
-#[tactic(auto, unfolding(spec_session::specs::calls::Lists::list_end, spec_session::specs::session::Turns::turn_of, spec_session::specs::session::Answers::answer_of))]
+// The end of a call with a list: 10 leaves what the accepted ids left, what comes after it closes the session.
+#[tactic(auto, unfolding(spec_session::specs::calls::Lists::list_end, spec_session::specs::session::Turns::call_of))]
 pub fn settle_list(s: Session, work: &mut [u8], text: &mut [u8], r: Tally) -> Turn
-    ensures { call_of result.session result.answer work.new text.new
+    ensures { call_of result.session (answer_is result.answer) work.new text.new
         ≡ list_end s r work.old text.old }
 {
     let len = r.len;
-    let answer = answer_of(r.number, r.accepted);
-    if r.number <= u32::from(Refusal::NoSuchId) {
+    let answer = answer_of(r.stop, r.accepted);
+    if stays_open(r.stop) {
         clear_after(text, r.accepted, len);
         return Turn {
             session: with_text(s, true, len, r.visits),

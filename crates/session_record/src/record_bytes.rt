@@ -1,46 +1,46 @@
 // The session record, as bytes, after each call of C.
 ghost use Rattle.std.specs.Prelude.{◌≡◌};
-ghost use Rattle.spec_session.specs.session.Answers.{number_of, value_of};
+ghost use Rattle.spec_bytes.specs.Refusals.{refusal_number};
+ghost use Rattle.spec_session.specs.session.Answers.{answer_is, number_of, value_of};
 ghost use Rattle.session_record.specs.record_words.Words.{packed};
 ghost use Rattle.session_record.specs.record_bytes.Record.{record_opened, record_refused, record_after, record_longer, record_listed};
 
 use crate::record_words::{encode, number_and_value, put_reached, shut};
 use base_bytes::refusal::Refusal;
-use spec_session::session::{Answer, Turn};
+use spec_session::session::{Refused, Turn};
 
 // Opening writes the record whole, and a refused opening leaves it.
 #[tactic(auto, unfolding(crate::specs::record_bytes::Record::record_opened, crate::specs::record_words::Words::packed, spec_session::specs::session::Answers::number_of, spec_session::specs::session::Answers::value_of))]
 pub fn opened(record: &mut [u8], t: Turn) -> u64
-    ensures { (result ≡ packed t.answer) × («record».new ≡ record_opened t.answer t.session «record».old) }
+    ensures { (result ≡ packed (answer_is t.answer))
+        × («record».new ≡ record_opened (answer_is t.answer) t.session «record».old) }
 {
-    let a = t.answer;
-    match a {
-        Answer::Accepted(value) => {
+    match t.answer {
+        Ok(value) => {
             encode(record, t.session);
             value as u64
         }
-        Answer::Refused(_, _) => number_and_value(a),
+        Err(_) => number_and_value(t.answer),
     }
 }
 
 // A request changes the text length and the visits, and the open word where it closes the session; 10 and 11 change nothing.
 #[tactic(auto, unfolding(crate::specs::record_bytes::Record::record_after))]
 fn store(record: &mut [u8], t: Turn)
-    ensures { «record».new ≡ record_after t.answer t.session.visits «record».old }
+    ensures { «record».new ≡ record_after (answer_is t.answer) t.session.visits «record».old }
 {
-    let a = t.answer;
     let s = t.session;
-    match a {
-        Answer::Accepted(len) => put_reached(record, len, s.visits),
-        Answer::Refused(number, len) => store_refused(record, number, len, s.visits),
+    match t.answer {
+        Ok(len) => put_reached(record, len, s.visits),
+        Err(r) => store_refused(record, r.refusal, r.value, s.visits),
     }
 }
 
 #[tactic(auto, unfolding(crate::specs::record_bytes::Record::record_refused))]
-fn store_refused(record: &mut [u8], number: u32, len: u32, visits: u32)
-    ensures { «record».new ≡ record_refused number len visits «record».old }
+fn store_refused(record: &mut [u8], refusal: Refusal, len: u32, visits: u32)
+    ensures { «record».new ≡ record_refused (refusal_number refusal) len visits «record».old }
 {
-    let is_kept = number < u32::from(Refusal::TooDeep);
+    let is_kept = u32::from(refusal) < u32::from(Refusal::TooDeep);
     if is_kept {
         return;
     }
@@ -49,12 +49,11 @@ fn store_refused(record: &mut [u8], number: u32, len: u32, visits: u32)
 }
 
 pub fn answered(record: &mut [u8], t: Turn) -> u64
-    ensures { (result ≡ packed t.answer)
-        × («record».new ≡ record_after t.answer t.session.visits «record».old) }
+    ensures { (result ≡ packed (answer_is t.answer))
+        × («record».new ≡ record_after (answer_is t.answer) t.session.visits «record».old) }
 {
-    let a = t.answer;
     store(record, t);
-    number_and_value(a)
+    number_and_value(t.answer)
 }
 
 // A list changes them if an id was accepted.
@@ -70,12 +69,11 @@ fn store_longer(record: &mut [u8], accepted: u32, len: u32, visits: u32)
 }
 
 #[tactic(auto, unfolding(crate::specs::record_bytes::Record::record_listed, crate::specs::record_bytes::Record::record_refused))]
-fn store_stopped(record: &mut [u8], number: u32, accepted: u32, len: u32, visits: u32)
-    ensures { «record».new ≡ record_listed number accepted len visits «record».old }
+fn store_stopped(record: &mut [u8], refusal: Refusal, accepted: u32, len: u32, visits: u32)
+    ensures { «record».new ≡ record_listed (refusal_number refusal) accepted len visits «record».old }
 {
-    if number > u32::from(Refusal::SessionClosed) {
-        store_refused(record, number, len, visits);
-        return;
+    if u32::from(refusal) > u32::from(Refusal::SessionClosed) {
+        return store_refused(record, refusal, len, visits);
     }
     store_longer(record, accepted, len, visits)
 }
@@ -83,25 +81,21 @@ fn store_stopped(record: &mut [u8], number: u32, accepted: u32, len: u32, visits
 #[tactic(auto, unfolding(crate::specs::record_bytes::Record::record_listed, spec_session::specs::session::Answers::number_of, spec_session::specs::session::Answers::value_of))]
 fn store_list(record: &mut [u8], t: Turn)
     ensures { «record».new
-        ≡ record_listed (number_of t.answer) (value_of t.answer) t.session.text_len t.session.visits
-        «record».old }
+        ≡ record_listed (number_of (answer_is t.answer)) (value_of (answer_is t.answer)) t.session.text_len
+        t.session.visits «record».old }
 {
-    let a = t.answer;
     let s = t.session;
-    match a {
-        Answer::Accepted(accepted) => store_longer(record, accepted, s.text_len, s.visits),
-        Answer::Refused(number, accepted) => store_stopped(
-            record, number, accepted, s.text_len, s.visits,
-        ),
+    match t.answer {
+        Ok(accepted) => store_longer(record, accepted, s.text_len, s.visits),
+        Err(r) => store_stopped(record, r.refusal, r.value, s.text_len, s.visits),
     }
 }
 
 pub fn listed(record: &mut [u8], t: Turn) -> u64
-    ensures { (result ≡ packed t.answer)
-        × («record».new ≡ record_listed (number_of t.answer) (value_of t.answer) t.session.text_len t.session.visits
-        «record».old) }
+    ensures { (result ≡ packed (answer_is t.answer))
+        × («record».new ≡ record_listed (number_of (answer_is t.answer)) (value_of (answer_is t.answer))
+        t.session.text_len t.session.visits «record».old) }
 {
-    let a = t.answer;
     store_list(record, t);
-    number_and_value(a)
+    number_and_value(t.answer)
 }

@@ -2,12 +2,14 @@
 // length, types, enumerators, text length, pointer size, modes, visits, and seven of zero. An answer is its number in the upper half
 // of 64 bits and its value in the lower.
 ghost use Rattle.std.specs.Prelude.{◌≡◌, ◌<◌};
+ghost use Rattle.spec_session.specs.session.Answers.{alone, answer_is};
 ghost use Rattle.session_record.specs.record_words.Words.{packed, get_long, put_long, put_reached, decoded, encoded_last, encoded};
 ghost use Rattle.session_record.specs.record_words.Words.{unused_zero};
 
 use base_bytes::limit;
+use base_bytes::refusal::Refusal;
 use base_bytes::word::{get_word, put_word};
-use spec_session::session::{Answer, Session};
+use spec_session::session::{Refused, Session};
 
 // Bytes of the record.
 pub const RECORD_BYTES: usize = 128;
@@ -16,19 +18,30 @@ pub const RECORD_BYTES: usize = 128;
 const USED_WORDS: usize = 9;
 
 // Answers of a refusal and the value 0: 11, 19, and 255 for a slice that is shorter than C promises.
-pub const ANSWER_CLOSED: u64 = 47244640256;
+pub const ANSWER_CLOSED: u64 = 11 * limit::TWO_TO_32;
 
-pub const ANSWER_NO_DECLARATION: u64 = 81604378624;
+pub const ANSWER_NO_DECLARATION: u64 = 19 * limit::TWO_TO_32;
 
-pub const ANSWER_SHORT_SLICE: u64 = 1095216660480;
+pub const ANSWER_SHORT_SLICE: u64 = 255 * limit::TWO_TO_32;
 
 #[tactic(auto, unfolding(crate::specs::record_words::Words::packed, spec_session::specs::session::Answers::number_of, spec_session::specs::session::Answers::value_of))]
-pub fn number_and_value(a: Answer) -> u64
-    ensures { result ≡ packed a }
+pub fn number_and_value(a: Result<u32, Refused>) -> u64
+    ensures { result ≡ packed (answer_is a) }
 {
     match a {
-        Answer::Accepted(value) => value as u64,
-        Answer::Refused(number, value) => (number as u64) * limit::TWO_TO_32 + (value as u64),
+        Ok(value) => value as u64,
+        Err(r) => (u32::from(r.refusal) as u64) * limit::TWO_TO_32 + (r.value as u64),
+    }
+}
+
+// The same of a call that says nothing beside its refusal.
+#[tactic(auto, unfolding(crate::specs::record_words::Words::packed, spec_session::specs::session::Answers::number_of, spec_session::specs::session::Answers::value_of))]
+pub fn number_or_value(a: Result<u32, Refusal>) -> u64
+    ensures { result ≡ packed (alone a) }
+{
+    match a {
+        Ok(value) => value as u64,
+        Err(refusal) => (u32::from(refusal) as u64) * limit::TWO_TO_32,
     }
 }
 

@@ -1,29 +1,40 @@
 // What every call of a session shares: cause 11, and how it ends.
 ghost use Rattle.std.specs.Prelude.{◌≡◌, length};
-ghost use Rattle.spec_session.specs.session.Answers.{answer_of};
-ghost use Rattle.spec_session.specs.session.Turns.{call_of, turn_of, is_current, reach_of, with_text, then_zeros, visits_in, settled};
+ghost use Rattle.spec_session.specs.session.Answers.{answer_is, answer_of, stop_number, stays_open};
+ghost use Rattle.spec_session.specs.session.Turns.{call_of, refused_turn, is_current, reach_of, with_text, then_zeros, visits_in, settled};
 
+use base_bytes::refusal::Refusal;
 use base_bytes::word::{clear, get_word};
-use spec_session::session::{Answer, Reached, Session, Turn};
+use spec_session::session::{Reached, Refused, Session, Turn};
 
-#[tactic(auto, unfolding(spec_session::specs::session::Answers::answer_of))]
-pub fn answer_of(number: u32, value: u32) -> Answer
-    ensures { result ≡ answer_of number value }
+// The answer of requests that were stopped by a refusal, or by none.
+#[tactic(auto, using(spec_session::proofs::session::Laws::refused_is), unfolding(spec_session::specs::session::Answers::answer_of))]
+pub fn answer_of(stop: Option<Refusal>, value: u32) -> Result<u32, Refused>
+    ensures { answer_is result ≡ answer_of (stop_number stop) value }
 {
-    if number == 0 {
-        return Answer::Accepted(value);
+    match stop {
+        None => Ok(value),
+        Some(refusal) => Err(Refused { refusal, value }),
     }
-    Answer::Refused(number, value)
 }
 
-// A turn that leaves the session as it is.
-#[tactic(auto, unfolding(spec_session::specs::session::Turns::turn_of))]
-pub fn turn_of(s: Session, number: u32, value: u32) -> Turn
-    ensures { result ≡ turn_of s (answer_of number value) }
+// A refused call that leaves the session as it is.
+pub fn refused(s: Session, refusal: Refusal, value: u32) -> Turn
+    ensures { result ≡ refused_turn s refusal value }
 {
     Turn {
         session: s,
-        answer: answer_of(number, value),
+        answer: Err(Refused { refusal, value }),
+    }
+}
+
+// Whether the session stays open: after no refusal, and after 10.
+pub fn stays_open(stop: Option<Refusal>) -> bool
+    ensures { result ≡ stays_open stop }
+{
+    match stop {
+        None => true,
+        Some(refusal) => u32::from(refusal) <= u32::from(Refusal::NoSuchId),
     }
 }
 
@@ -73,17 +84,18 @@ pub fn visits_in(work: &[u8]) -> u32
 // The end of a call: what follows the text is zero; after a refusal so is the work, and the session is closed. The record gets the
 // visits that the work counts, or those that it counted before the refused request.
 pub fn settle(s: Session, work: &mut [u8], text: &mut [u8], r: Reached) -> Turn
-    ensures { call_of result.session result.answer work.new text.new
+    ensures { call_of result.session (answer_is result.answer) work.new text.new
         ≡ settled s (length work.old) (length text.old) (reach_of r work.old text.old) }
 {
     clear_from(text, r.len);
-    let is_accepted = r.number == 0;
-    if is_accepted {
-        return Turn {
+    match r.stop {
+        None => Turn {
             session: with_text(s, true, r.len, visits_in(work)),
-            answer: Answer::Accepted(r.len),
-        };
+            answer: Ok(r.len),
+        },
+        Some(refusal) => {
+            clear(work);
+            refused(with_text(s, false, r.len, r.visits), refusal, r.len)
+        }
     }
-    clear(work);
-    turn_of(with_text(s, false, r.len, r.visits), r.number, r.len)
 }

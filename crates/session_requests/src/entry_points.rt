@@ -1,14 +1,15 @@
-// The calls of a session whose record is lent by `&mut`: thin entry points over the calls by value of `opens` and
+// The calls of a session whose record is lent by `&mut`: thin entry points over the calls by value of `open_call` and
 // `requests`.
 ghost use Rattle.std.specs.Prelude.{◌≡◌};
+ghost use Rattle.spec_session.specs.session.Answers.{answer_is};
 ghost use Rattle.spec_session.specs.session.Turns.{call_of};
 ghost use Rattle.spec_session.specs.calls.Calls.{open_call, type_call, types_call};
 ghost use Rattle.spec_session.specs.calls.Lists.{ids_in, list_call};
 
 use crate::open_call::open_core;
-use crate::options::Options;
-use crate::requests::{request_list, request_type, request_types};
-use spec_session::session::{Answer, Session};
+use crate::options::{Options, Wanted};
+use crate::requests::request;
+use spec_session::session::{Refused, Session};
 
 pub fn open(
     s: &mut Session,
@@ -17,8 +18,8 @@ pub fn open(
     text: &mut [u8],
     pointer_size: u32,
     modes: u32,
-) -> Answer
-    ensures { call_of s.new result work.new text.new
+) -> Result<u32, Refused>
+    ensures { call_of s.new (answer_is result) work.new text.new
         ≡ open_call s.old section.now work.old text.old pointer_size modes }
 {
     let turn = open_core(*s, section, work, text, pointer_size, modes);
@@ -32,20 +33,43 @@ pub fn dump_type(
     work: &mut [u8],
     text: &mut [u8],
     id: u32,
-) -> Answer
-    ensures { call_of s.new result work.new text.new ≡ type_call s.old section.now
+) -> Result<u32, Refused>
+    ensures { call_of s.new (answer_is result) work.new text.new ≡ type_call s.old section.now
         work.old text.old id }
 {
-    let turn = request_type(*s, section, work, text, &mut [0u8; 0], id, Options::Plain).turn;
+    let turn = request(
+        *s,
+        section,
+        work,
+        text,
+        &mut [0u8; 0],
+        Wanted::One(id),
+        Options::Plain,
+    )
+    .turn;
     *s = turn.session;
     turn.answer
 }
 
-pub fn dump_types(s: &mut Session, section: &[u8], work: &mut [u8], text: &mut [u8]) -> Answer
-    ensures { call_of s.new result work.new text.new
+pub fn dump_types(
+    s: &mut Session,
+    section: &[u8],
+    work: &mut [u8],
+    text: &mut [u8],
+) -> Result<u32, Refused>
+    ensures { call_of s.new (answer_is result) work.new text.new
         ≡ types_call s.old section.now work.old text.old }
 {
-    let turn = request_types(*s, section, work, text, &mut [0u8; 0], Options::Plain).turn;
+    let turn = request(
+        *s,
+        section,
+        work,
+        text,
+        &mut [0u8; 0],
+        Wanted::All,
+        Options::Plain,
+    )
+    .turn;
     *s = turn.session;
     turn.answer
 }
@@ -58,11 +82,20 @@ pub fn dump_list(
     work: &mut [u8],
     text: &mut [u8],
     ids: &[u8],
-) -> Answer
-    ensures { call_of s.new result work.new text.new
+) -> Result<u32, Refused>
+    ensures { call_of s.new (answer_is result) work.new text.new
         ≡ list_call s.old section.now work.old text.old (ids_in ids.now) }
 {
-    let turn = request_list(*s, section, work, text, &mut [0u8; 0], ids, Options::Plain).turn;
+    let turn = request(
+        *s,
+        section,
+        work,
+        text,
+        &mut [0u8; 0],
+        Wanted::Ids(ids),
+        Options::Plain,
+    )
+    .turn;
     *s = turn.session;
     turn.answer
 }

@@ -1,9 +1,18 @@
 // The options of a request, and what a call with them comes to.
 ghost use Rattle.std.specs.Prelude.{◌≡◌};
-ghost use Rattle.session_requests.specs.options.Options.{is_listed, ceiling_of};
+ghost use Rattle.session_requests.specs.options.Options.{is_listed, ceiling_of, idle_made};
 
-use c_dumper_dependency_order::begin::Ceiling;
+use base_bytes::refusal::Refusal;
+use c_dumper_dependency_order::ways::count_idle;
 use spec_session::session::{Reached, Tally, Turn};
+
+// What a call asks for: one id, all ids, or those of a list, four bytes each.
+#[derive(Clone, Copy)]
+pub enum Wanted<'a> {
+    One(u32),
+    All,
+    Ids(&'a [u8]),
+}
 
 // What a call is told beside its ids: nothing; a ceiling on the calls of ordering, which its requests share; or that the lent list
 // gets an entry for each line.
@@ -24,19 +33,22 @@ impl Options {
         }
     }
 
-    // As the ordering takes it.
-    pub fn ceiling(self) -> Ceiling
+    pub fn ceiling(self) -> Option<u64>
         ensures { result ≡ ceiling_of self }
     {
         match self {
-            Options::Within(calls) => Ceiling {
-                is_set: true,
-                calls: calls,
-            },
-            Options::Plain | Options::Listed => Ceiling {
-                is_set: false,
-                calls: 0,
-            },
+            Options::Within(calls) => Some(calls),
+            Options::Plain | Options::Listed => None,
+        }
+    }
+
+    // The calls of ordering made after a request that has nothing to do: it makes one, which only a ceiling counts.
+    pub fn count_idle(self, made: u64) -> Result<u64, Refusal>
+        ensures { result ≡ idle_made self made }
+    {
+        match self {
+            Options::Within(calls) => count_idle(made, calls),
+            Options::Plain | Options::Listed => Ok(made),
         }
     }
 }

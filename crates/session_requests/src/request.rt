@@ -1,5 +1,5 @@
 // One request of a call, after those before it: plain, under a ceiling, or with an entry for each line.
-ghost use Rattle.std.specs.Prelude.{◌+◌, ◌≤◌, ◌≡◌, [], length};
+ghost use Rattle.std.specs.Prelude.{◌+◌, ◌≤◌, ◌≡◌, [], length, None};
 ghost use Rattle.spec_c_dumper.specs.origins.Causes.{up_to, entries_in};
 ghost use Rattle.spec_session.specs.session.Turns.{visits_in};
 ghost use Rattle.c_dumper_emit.specs.entries.Noted.{entries_of};
@@ -7,9 +7,8 @@ ghost use Rattle.session_requests.specs.options.Requests.{stage_of, Under, Ready
 
 use crate::options::{Options, Progress};
 use btf_type_table::table::Table;
-use c_dumper_dependency_order::ways::count_idle;
-use c_dumper_emit::dump_type::{dump_type, is_idle};
-use c_dumper_emit::entries::{Asked, Pen};
+use c_dumper_emit::dump_type::{Request, dump_type, is_idle};
+use c_dumper_emit::entries::Pen;
 use session_record::arrival::{arrived, limit};
 use session_record::settle::visits_in;
 use spec_session::session::Reached;
@@ -34,12 +33,12 @@ pub fn dump_one(
         ≡ requested_with o (up_to (entries_in list.old)) b.now.head b.now.section.now id [] len visits
         work.old text.old made) × (result.count ≤ entries_in list.old)
         × (result.reached.len ≤ length text.new) × Under o result.made
-        × (result.reached.number ≡ 0 → (result.reached.visits ≡ visits_in work.new) × Ready o (turn + 1) leads.new) }
+        × (result.reached.stop ≡ None → (result.reached.visits ≡ visits_in work.new) × Ready o (turn + 1) leads.new) }
 {
     let from = len as usize;
     let to = limit(text.len(), from);
     let start = Pen { at: 0, count: 0 };
-    let q = Asked {
+    let q = Request {
         req: id,
         turn: turn,
         lists: o.is_listed(),
@@ -55,22 +54,17 @@ pub fn dump_one(
         made,
         o.ceiling(),
     );
-    let r = arrived(len, visits, to - from, d.pen.at);
-    if r.number != 0 {
-        return Progress {
-            reached: r,
+    match d.pen {
+        Ok(pen) => Progress {
+            reached: arrived(len, visits_in(work), Ok(pen.at)),
+            count: pen.count,
+            made: d.made,
+        },
+        Err(refusal) => Progress {
+            reached: arrived(len, visits, Err(refusal)),
             count: 0,
             made: d.made,
-        };
-    }
-    Progress {
-        reached: Reached {
-            len: r.len,
-            number: 0,
-            visits: visits_in(work),
         },
-        count: d.pen.count,
-        made: d.made,
     }
 }
 
@@ -91,7 +85,7 @@ fn dump_after(
         ≡ requested_with o (up_to (entries_in list.old)) b.now.head b.now.section.now id (entries_of p.count list.old)
         p.reached.len p.reached.visits work.old text.old p.made)
         × (result.count ≤ entries_in list.old) × (result.reached.len ≤ length text.new) × Under o result.made
-        × (result.reached.number ≡ 0 → (result.reached.visits ≡ visits_in work.new) × Ready o (id + 1) leads.new) }
+        × (result.reached.stop ≡ None → (result.reached.visits ≡ visits_in work.new) × Ready o (id + 1) leads.new) }
 {
     let count = p.count;
     let from = count * 12;
@@ -108,42 +102,33 @@ fn dump_after(
         id,
         o,
     );
-    let reached = r.reached;
     Progress {
-        reached: reached,
         count: count + r.count,
-        made: r.made,
+        ..r
     }
 }
 
-// A request that has nothing to write: it opens one call of ordering, which only a ceiling counts.
+// A request that has nothing to write.
+#[tactic(auto, unfolding(crate::specs::options::Requests::idle_after))]
 fn pass_idle(p: Progress, o: Options) -> Progress
     ensures { result ≡ idle_after p o }
 {
-    let len = p.reached.len;
-    let visits = p.reached.visits;
-    match o {
-        Options::Plain | Options::Listed => Progress {
+    match o.count_idle(p.made) {
+        Ok(made) => Progress {
             reached: Reached {
-                len: len,
-                number: 0,
-                visits: visits,
+                stop: None,
+                ..p.reached
             },
-            count: p.count,
-            made: p.made,
+            made,
+            ..p
         },
-        Options::Within(calls) => {
-            let n = count_idle(p.made, calls);
-            Progress {
-                reached: Reached {
-                    len: len,
-                    number: n.number,
-                    visits: visits,
-                },
-                count: p.count,
-                made: n.made,
-            }
-        }
+        Err(refusal) => Progress {
+            reached: Reached {
+                stop: Some(refusal),
+                ..p.reached
+            },
+            ..p
+        },
     }
 }
 
@@ -164,7 +149,7 @@ pub fn dump_next(
         ≡ requested_with o (up_to (entries_in list.old)) b.now.head b.now.section.now id (entries_of p.count list.old)
         p.reached.len (visits_in work.old) work.old text.old p.made)
         × (result.count ≤ entries_in list.old) × (result.reached.len ≤ length text.new) × Under o result.made
-        × (result.reached.number ≡ 0 → (result.reached.visits ≡ visits_in work.new) × Ready o (id + 1) leads.new) }
+        × (result.reached.stop ≡ None → (result.reached.visits ≡ visits_in work.new) × Ready o (id + 1) leads.new) }
 {
     if is_idle(b, work, id) {
         return pass_idle(p, o);

@@ -1,18 +1,17 @@
 // The calls of a session by value: one request, the request for all ids and a list of ids, each with its options. What they are
 // plain, under a ceiling, and with a list that gets an entry for each line: proofs/options/Cases. Opening: `open_call`.
-ghost use Rattle.std.specs.Prelude.{◌+◌, ◌*◌, ◌-◌, ◌≤◌, true, ◌≡◌, [], length};
-ghost use Rattle.spec_bytes.specs.Refusals.{refusal_number};
+ghost use Rattle.std.specs.Prelude.{◌+◌, ◌*◌, ◌-◌, ◌≤◌, true, ◌≡◌, [], length, None};
 ghost use Rattle.spec_c_dumper.specs.origins.Causes.{up_to, entries_in};
-ghost use Rattle.spec_session.specs.session.Answers.{answer_of};
-ghost use Rattle.spec_session.specs.session.Turns.{is_current, then_zeros, turn_of};
+ghost use Rattle.spec_session.specs.session.Turns.{is_current, then_zeros, refused_turn};
 ghost use Rattle.spec_session.specs.calls.Lists.{ids_in};
 ghost use Rattle.session_requests.specs.options.Options.{is_listed};
 ghost use Rattle.session_requests.specs.declared.options.Options.TheVariants.{Listed};
 ghost use Rattle.session_requests.specs.options.Requests.{stage_of, Ready, requested_from_with};
-ghost use Rattle.session_requests.specs.options.Requests.{ended_of, type_call_with, types_call_with};
-ghost use Rattle.session_requests.specs.options.Lists.{cleared_if, list_after, end_with, list_call_with};
+ghost use Rattle.session_requests.specs.options.Requests.{ended_of, settled_with, type_call_with, types_call_with};
+ghost use Rattle.session_requests.specs.options.Lists.{cleared_if, list_after, end_with};
+ghost use Rattle.session_requests.specs.options.Lists.{list_call_with, tally_of, unknown_after, call_with};
 
-use crate::options::{Ended, Options, Progress, Tallied};
+use crate::options::{Ended, Options, Progress, Tallied, Wanted};
 use crate::request::{dump_next, dump_one};
 use base_bytes::limit;
 use base_bytes::refusal::Refusal;
@@ -20,18 +19,18 @@ use base_bytes::word::{clear, get_word};
 use btf_open_causes::header::btf_of;
 use btf_type_table::table::Table;
 use session_record::arrival::{count_of, settle_list};
-use session_record::settle::{clear_from, is_current, settle, turn_of, visits_in};
-use spec_session::session::{Reached, Session, Tally};
+use session_record::settle::{clear_from, is_current, refused, settle, stays_open, visits_in};
+use spec_session::session::{Reached, Session, Tally, Turn};
 
 // Before the first request of a call, after a text of len bytes and so many visits.
 fn none_yet(len: u32, visits: u32) -> Progress
-    ensures { result ≡ record { reached = record { len = len; number = 0; visits = visits }; count = 0; made = 0 } }
+    ensures { result ≡ record { reached = record { len = len; stop = None; visits = visits }; count = 0; made = 0 } }
 {
     Progress {
         reached: Reached {
-            len: len,
-            number: 0,
-            visits: visits,
+            len,
+            stop: None,
+            visits,
         },
         count: 0,
         made: 0,
@@ -57,40 +56,39 @@ fn dump_all(
     let mut r = none_yet(len, visits_in(work));
     for id in 1..n {
         r = dump_next(b, work, text, list, leads, r, id, o);
-        if r.reached.number != 0 {
+        if r.reached.stop.is_some() {
             return r;
         }
     }
     r
 }
 
-fn tally_of(r: Reached, accepted: u32, count: usize, made: u64) -> Tallied
-    ensures { result ≡ record {
-      tally = record { len = r.len; number = r.number; accepted = accepted; visits = r.visits };
-      count = count;
-      made = made;
-    } }
+// After so many accepted ids.
+fn tally_of(p: Progress, accepted: u32) -> Tallied
+    ensures { result ≡ tally_of p accepted }
 {
     Tallied {
         tally: Tally {
-            len: r.len,
-            number: r.number,
-            accepted: accepted,
-            visits: r.visits,
+            len: p.reached.len,
+            stop: p.reached.stop,
+            accepted,
+            visits: p.reached.visits,
         },
-        count: count,
-        made: made,
+        count: p.count,
+        made: p.made,
     }
 }
 
 // An id that is not below the count of types.
-fn unknown(r: Reached) -> Reached
-    ensures { result ≡ record { len = r.len; number = 10; visits = r.visits } }
+fn unknown(p: Progress) -> Progress
+    ensures { result ≡ unknown_after p }
 {
-    Reached {
-        len: r.len,
-        number: u32::from(Refusal::NoSuchId),
-        visits: r.visits,
+    Progress {
+        reached: Reached {
+            stop: Some(Refusal::NoSuchId),
+            ..p.reached
+        },
+        ..p
     }
 }
 
@@ -127,7 +125,7 @@ fn dump_ids(
     for k in 0..n {
         let id = get_word(ids, k as usize);
         if s.types <= id {
-            return tally_of(unknown(r.reached), k, r.count, r.made);
+            return tally_of(unknown(r), k);
         }
         let count = r.count;
         let from = count * 12;
@@ -144,18 +142,16 @@ fn dump_ids(
             k + 1,
             o,
         );
-        if d.reached.number != 0 {
-            return tally_of(d.reached, k, count + d.count, d.made);
-        }
-        let reached = d.reached;
-        clear_if(text, reached.len, o);
         r = Progress {
-            reached: reached,
             count: count + d.count,
-            made: d.made,
+            ..d
         };
+        if r.reached.stop.is_some() {
+            return tally_of(r, k);
+        }
+        clear_if(text, r.reached.len, o);
     }
-    tally_of(r.reached, n, r.count, r.made)
+    tally_of(r, n)
 }
 
 // Zeroes what follows the entries.
@@ -175,11 +171,7 @@ fn clear_after(list: &mut [u8], r: Tallied)
     requires { r.count ≤ entries_in list.old }
     ensures { list.new ≡ list_after r list.old }
 {
-    if r.tally.number <= u32::from(Refusal::NoSuchId) {
-        if r.tally.accepted == 0 {
-            return;
-        }
-        clear_entries(list, r.count);
+    if stays_open(r.tally.stop) && r.tally.accepted == 0 {
         return;
     }
     clear_entries(list, r.count);
@@ -187,12 +179,27 @@ fn clear_after(list: &mut [u8], r: Tallied)
 
 // A call that leaves everything as it was.
 fn unchanged(s: Session, c: Refusal, value: u32) -> Ended
-    ensures { result ≡ record { turn = turn_of s (answer_of (refusal_number c) value); count = 0; made = 0 } }
+    ensures { result ≡ record { turn = refused_turn s c value; count = 0; made = 0 } }
 {
     Ended {
-        turn: turn_of(s, u32::from(c), value),
+        turn: refused(s, c, value),
         count: 0,
         made: 0,
+    }
+}
+
+// The end of a call: what follows the text and the entries is zeroed.
+fn end(s: Session, work: &mut [u8], text: &mut [u8], list: &mut [u8], r: Progress) -> Ended
+    requires { r.count ≤ entries_in list.old }
+    ensures { ended_of result work.new text.new list.new
+        ≡ settled_with s (length work.old) (length text.old) list.old (stage_of r work.old text.old list.old) }
+{
+    let turn = settle(s, work, text, r.reached);
+    clear_entries(list, r.count);
+    Ended {
+        turn,
+        count: r.count,
+        made: r.made,
     }
 }
 
@@ -223,13 +230,7 @@ fn type_with(
     let r = dump_one(
         &b, work, text, list, leads, s.text_len, s.visits, 0, id, 1, o,
     );
-    let turn = settle(s, work, text, r.reached);
-    clear_entries(list, r.count);
-    Ended {
-        turn: turn,
-        count: r.count,
-        made: r.made,
-    }
+    end(s, work, text, list, r)
 }
 
 fn types_with(
@@ -251,13 +252,7 @@ fn types_with(
     let head = btf_of(section, s.pointer_size, s.modes, s.types);
     let b = Table { head, section };
     let r = dump_all(&b, work, text, list, leads, s.text_len, o);
-    let turn = settle(s, work, text, r.reached);
-    clear_entries(list, r.count);
-    Ended {
-        turn: turn,
-        count: r.count,
-        made: r.made,
-    }
+    end(s, work, text, list, r)
 }
 
 fn list_with(
@@ -277,7 +272,10 @@ fn list_with(
 {
     if ids.len() < 4 {
         return Ended {
-            turn: turn_of(s, 0, 0),
+            turn: Turn {
+                session: s,
+                answer: Ok(0),
+            },
             count: 0,
             made: 0,
         };
@@ -289,138 +287,77 @@ fn list_with(
     let turn = settle_list(s, work, text, r.tally);
     clear_after(list, r);
     Ended {
-        turn: turn,
+        turn,
         count: r.count,
         made: r.made,
     }
 }
 
-// ---- with a list. Its words stand in functions of their own: another call pays nothing for them at its entry.
-
-#[inline(never)]
-fn type_listed(
+// By what is wanted.
+fn request_with(
     s: Session,
     section: &[u8],
     work: &mut [u8],
     text: &mut [u8],
     list: &mut [u8],
-    id: u32,
+    leads: &mut [u64],
+    wanted: Wanted,
+    o: Options,
+) -> Ended
+    requires { Ready o 1 leads.old }
+    ensures { ended_of result work.new text.new list.new
+        ≡ call_with o s section.now work.old text.old wanted.entry list.old }
+{
+    match wanted {
+        Wanted::One(id) => type_with(s, section, work, text, list, leads, id, o),
+        Wanted::All => types_with(s, section, work, text, list, leads, o),
+        Wanted::Ids(ids) => list_with(s, section, work, text, list, leads, ids, o),
+    }
+}
+
+// With a list. Its words stand in a function of their own: another call pays nothing for them at its entry.
+#[inline(never)]
+fn request_listed(
+    s: Session,
+    section: &[u8],
+    work: &mut [u8],
+    text: &mut [u8],
+    list: &mut [u8],
+    wanted: Wanted,
 ) -> Ended
     ensures { ended_of result work.new text.new list.new
-        ≡ type_call_with Listed s section.now work.old text.old id list.old 0 }
+        ≡ call_with Listed s section.now work.old text.old wanted.entry list.old }
 {
     let mut leads = [0u64; limit::TYPES_LEN];
-    type_with(
+    request_with(
         s,
         section,
         work,
         text,
         list,
         &mut leads,
-        id,
+        wanted,
         Options::Listed,
     )
 }
 
-#[inline(never)]
-fn types_listed(
+// The call. Without `Listed` the list is only zeroed.
+pub fn request(
     s: Session,
     section: &[u8],
     work: &mut [u8],
     text: &mut [u8],
     list: &mut [u8],
-) -> Ended
-    ensures { ended_of result work.new text.new list.new
-        ≡ types_call_with Listed s section.now work.old text.old list.old }
-{
-    let mut leads = [0u64; limit::TYPES_LEN];
-    types_with(s, section, work, text, list, &mut leads, Options::Listed)
-}
-
-#[inline(never)]
-fn list_listed(
-    s: Session,
-    section: &[u8],
-    work: &mut [u8],
-    text: &mut [u8],
-    list: &mut [u8],
-    ids: &[u8],
-) -> Ended
-    ensures { ended_of result work.new text.new list.new
-        ≡ list_call_with Listed s section.now work.old text.old (ids_in ids.now)
-        list.old }
-{
-    let mut leads = [0u64; limit::TYPES_LEN];
-    list_with(
-        s,
-        section,
-        work,
-        text,
-        list,
-        &mut leads,
-        ids,
-        Options::Listed,
-    )
-}
-
-// ---- the calls. Without `Listed` the list is only zeroed.
-
-pub fn request_type(
-    s: Session,
-    section: &[u8],
-    work: &mut [u8],
-    text: &mut [u8],
-    list: &mut [u8],
-    id: u32,
+    wanted: Wanted,
     o: Options,
 ) -> Ended
     ensures { ended_of result work.new text.new list.new
-        ≡ type_call_with o s section.now work.old text.old id list.old 0 }
+        ≡ call_with o s section.now work.old text.old wanted.entry list.old }
 {
     match o {
-        Options::Listed => type_listed(s, section, work, text, list, id),
+        Options::Listed => request_listed(s, section, work, text, list, wanted),
         Options::Plain | Options::Within(_) => {
-            type_with(s, section, work, text, list, &mut [0u64; 0], id, o)
-        }
-    }
-}
-
-pub fn request_types(
-    s: Session,
-    section: &[u8],
-    work: &mut [u8],
-    text: &mut [u8],
-    list: &mut [u8],
-    o: Options,
-) -> Ended
-    ensures { ended_of result work.new text.new list.new
-        ≡ types_call_with o s section.now work.old text.old list.old }
-{
-    match o {
-        Options::Listed => types_listed(s, section, work, text, list),
-        Options::Plain | Options::Within(_) => {
-            types_with(s, section, work, text, list, &mut [0u64; 0], o)
-        }
-    }
-}
-
-pub fn request_list(
-    s: Session,
-    section: &[u8],
-    work: &mut [u8],
-    text: &mut [u8],
-    list: &mut [u8],
-    ids: &[u8],
-    o: Options,
-) -> Ended
-    ensures { ended_of result work.new text.new list.new
-        ≡ list_call_with o s section.now work.old text.old (ids_in ids.now)
-        list.old }
-{
-    match o {
-        Options::Listed => list_listed(s, section, work, text, list, ids),
-        Options::Plain | Options::Within(_) => {
-            list_with(s, section, work, text, list, &mut [0u64; 0], ids, o)
+            request_with(s, section, work, text, list, &mut [0u64; 0], wanted, o)
         }
     }
 }

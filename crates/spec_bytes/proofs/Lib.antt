@@ -1,2 +1,3 @@
 pub mod signed
 pub mod text
+pub mod words

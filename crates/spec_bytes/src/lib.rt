@@ -2,4 +2,3 @@
 #![tactic(auto)]
 
 pub mod refusal;
-pub mod words;

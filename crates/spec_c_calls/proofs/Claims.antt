@@ -12,9 +12,8 @@ use lib.ListN.{length, take, get_or}
 use borrow.Author.Tests.{le-ltb, ltb-true, ltb-false}
 use Rattle.spec_bytes.specs.words.Words.{get_word, put_word}
 use Rattle.spec_bytes.proofs.words.Laws.{get_put_same, get_put_other, put_length}
-use Rattle.spec_session.specs.declared.session.Answer.TheVariants.{Refused}
+use Rattle.spec_session.specs.session.Answers.{Refused, answer_of}
 use Rattle.spec_session.specs.declared.session.Session.{Session}
-use Rattle.spec_session.specs.session.Answers.{answer_of}
 use Rattle.spec_session.specs.session.Turns.{Call, is_current, Reach, with_text, settled, unchanged, table_for, visits_in}
 use Rattle.spec_session.specs.calls.Calls.{requested, requested_from, type_call, types_call}
 use Rattle.spec_session.proofs.session.Laws.{current_fits}

@@ -4,7 +4,7 @@ use mathlib.Core.Path.{◌≡◌, ap, ◌∙◌, sym}
 use mathlib.Core.List.{List}
 use lib.ListN.{length}
 use borrow.Author.Tests.{lt-ltb, le-ltb}
-use Rattle.spec_session.specs.declared.session.Answer.{Answer}
+use Rattle.spec_session.specs.session.Answers.{Answer}
 use Rattle.spec_session.specs.declared.session.Session.{Session}
 use Rattle.session_cut.specs.call.Calls.{cut_of, cut_call}
 use Rattle.session_record.specs.record_words.Words.{packed, decoded}

@@ -6,6 +6,7 @@ use lib.ListN.{length}
 use borrow.Author.Tests.{lt-ltb, le-ltb}
 use Rattle.spec_session.specs.declared.session.Session.{Session}
 use Rattle.spec_session.specs.declared.session.Turn.{Turn}
+use Rattle.spec_session.specs.session.Answers.{answer_is}
 use Rattle.spec_session.specs.session.Turns.{call_of}
 use Rattle.spec_session.specs.calls.Calls.{open_call, type_call, types_call}
 use Rattle.session_record.specs.record_words.Words.{decoded, packed}
@@ -28,21 +29,21 @@ module _ (r section w t : List ℕ) where
     types_short = sym (rw (lt-ltb (length r) 128 h, types_export))
 
   module _ (h : 128 ≤ length r) (s : Session) (es : s ≡ decoded r) (turn : Turn) (w' t' : List ℕ) (u : ℕ) (r' : List ℕ) where
-    pub open_is : (p m : ℕ) → call_of turn.session turn.answer w' t' ≡ open_call s section w t p m → (u ≡ packed turn.answer) × (r' ≡ record_opened turn.answer turn.session r) → export_of u r' w' t' ≡ open_export r section p m w t
+    pub open_is : (p m : ℕ) → call_of turn.session (answer_is turn.answer) w' t' ≡ open_call s section w t p m → (u ≡ packed (answer_is turn.answer)) × (r' ≡ record_opened (answer_is turn.answer) turn.session r) → export_of u r' w' t' ≡ open_export r section p m w t
     unfolding open_export opened_by call_of
     open_is p m e eu =
         (λ i. export_of (eu.0 i) (eu.1 i) w' t')
         ∙ ap (opened_by r) (e ∙ ap (λ (q : Session). open_call q section w t p m) es)
         ∙ sym (rw (le-ltb (length r) 128 h, open_export))
 
-    pub type_is : (id : ℕ) → call_of turn.session turn.answer w' t' ≡ type_call s section w t id → (u ≡ packed turn.answer) × (r' ≡ record_after turn.answer turn.session.visits r) → export_of u r' w' t' ≡ type_export r section w t id
+    pub type_is : (id : ℕ) → call_of turn.session (answer_is turn.answer) w' t' ≡ type_call s section w t id → (u ≡ packed (answer_is turn.answer)) × (r' ≡ record_after (answer_is turn.answer) turn.session.visits r) → export_of u r' w' t' ≡ type_export r section w t id
     unfolding type_export answered_by call_of
     type_is id e eu =
         (λ i. export_of (eu.0 i) (eu.1 i) w' t')
         ∙ ap (answered_by r) (e ∙ ap (λ (q : Session). type_call q section w t id) es)
         ∙ sym (rw (le-ltb (length r) 128 h, type_export))
 
-    pub types_is : call_of turn.session turn.answer w' t' ≡ types_call s section w t → (u ≡ packed turn.answer) × (r' ≡ record_after turn.answer turn.session.visits r) → export_of u r' w' t' ≡ types_export r section w t
+    pub types_is : call_of turn.session (answer_is turn.answer) w' t' ≡ types_call s section w t → (u ≡ packed (answer_is turn.answer)) × (r' ≡ record_after (answer_is turn.answer) turn.session.visits r) → export_of u r' w' t' ≡ types_export r section w t
     unfolding types_export answered_by call_of
     types_is e eu =
         (λ i. export_of (eu.0 i) (eu.1 i) w' t')

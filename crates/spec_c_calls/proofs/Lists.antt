@@ -10,10 +10,9 @@ use lib.ListN.{length}
 use borrow.Author.Tests.{le-ltb, ltb-true}
 use Rattle.spec_bytes.specs.words.Words.{get_word, put_word}
 use Rattle.spec_bytes.proofs.words.Laws.{put_again, put_swap}
-use Rattle.spec_session.specs.declared.session.Answer.{Answer}
+use Rattle.spec_session.specs.session.Answers.{Answer, number_of, value_of, answer_of, answer_is}
 use Rattle.spec_session.specs.declared.session.Session.{Session}
 use Rattle.spec_session.specs.declared.session.Turn.{Turn}
-use Rattle.spec_session.specs.session.Answers.{number_of, value_of, answer_of}
 use Rattle.spec_session.specs.session.Turns.{Call, call_of}
 use Rattle.spec_session.proofs.session.Laws.{visits_fit}
 use Rattle.spec_session.specs.calls.Calls.{type_call}
@@ -187,12 +186,12 @@ module _ (r section w t ids : List ℕ) where
       ∙ ap (λ (e : Export). counted_export 0 e (λ d. list_export_from 1 d.bytes section d.work d.text (ids_from ids 1 (count_in ids - 1)))) (sym (type_short r section w t h (get_word ids 0))))
 
   module _ (h : 128 ≤ length r) (s : Session) (es : s ≡ decoded r) (turn : Turn) (w' t' : List ℕ) (u : ℕ) (r' : List ℕ) where
-    pub list_is : turn.session.text_len < 4294967296 → turn.session.visits < 4294967296 → call_of turn.session turn.answer w' t' ≡ list_call s section w t (ids_in ids)
-        → (u ≡ packed turn.answer) × (r' ≡ record_listed (number_of turn.answer) (value_of turn.answer) turn.session.text_len turn.session.visits r) → export_of u r' w' t' ≡ list_export r section w t (ids_in ids)
+    pub list_is : turn.session.text_len < 4294967296 → turn.session.visits < 4294967296 → call_of turn.session (answer_is turn.answer) w' t' ≡ list_call s section w t (ids_in ids)
+        → (u ≡ packed (answer_is turn.answer)) × (r' ≡ record_listed (number_of (answer_is turn.answer)) (value_of (answer_is turn.answer)) turn.session.text_len turn.session.visits r) → export_of u r' w' t' ≡ list_export r section w t (ids_in ids)
     unfolding list_export list_call call_of
     list_is q q' e eu =
-        let z : value_of turn.answer ≡ value_of turn.answer - 0 = omega arith in
-        let whole : call_of turn.session turn.answer w' t' ≡ list_from 0 (decoded r) section w t (ids_in ids) = e ∙ ap (λ (k : Session). list_call k section w t (ids_in ids)) es in
-        (λ i. export_of (eu.0 i) ((eu.1 ∙ ap (λ (k : ℕ). record_listed (number_of turn.answer) k turn.session.text_len turn.session.visits r) z) i) w' t')
+        let z : value_of (answer_is turn.answer) ≡ value_of (answer_is turn.answer) - 0 = omega arith in
+        let whole : call_of turn.session (answer_is turn.answer) w' t' ≡ list_from 0 (decoded r) section w t (ids_in ids) = e ∙ ap (λ (k : Session). list_call k section w t (ids_in ids)) es in
+        (λ i. export_of (eu.0 i) ((eu.1 ∙ ap (λ (k : ℕ). record_listed (number_of (answer_is turn.answer)) k turn.session.text_len turn.session.visits r) z) i) w' t')
         ∙ ap (leaves 0 r) whole
         ∙ sym (fold_is section (ids_in ids) 0 r w t h (subst (λ (c : Call). (c.session.text_len < 4294967296) × (c.session.visits < 4294967296)) whole (q, q')))

@@ -9,6 +9,10 @@ use native.Mathlib.Omega.{arith}
 use lib.ListN.{length, get_or, replicate}
 use lib.Dec.{eqb, leb}
 use borrow.Author.Tests.{lt-ltb, ltb-true, ne_eqb, eqb-true, eqb-false, eq-eqb, le-leb, leb-true, not-false}
+use Rattle.std.specs.Prelude.{Result, Ok, Err}
+use Rattle.spec_bytes.specs.declared.refusal.Refusal.{Refusal as Cause}
+use Rattle.spec_bytes.specs.Refusals.{refusal_number}
+use Rattle.btf_open_causes.specs.declared.records.Counts.{Counts}
 use Rattle.spec_linux_btf.specs.Documentation.{Every, Allowed, Described, encode_all}
 use Rattle.spec_linux_btf.specs.Reading.{Bytes}
 use Rattle.spec_linux_btf.specs.Section.{is_big_endian, little_endian, hdr_len_of, types_at, type_len_of, strings_at, str_len_of, type_area, string_area, header_sound, all_ascii, last_of, strings_sound, types_sound}
@@ -21,8 +25,6 @@ use Rattle.btf_open_causes.proofs.prototypes.Held.{any_leads_lem}
 use Rattle.btf_open_causes.proofs.loops.TypeLoops.{type_loop}
 use Rattle.spec_opening.specs.Table.{types_of, enumerators_of, index_of}
 use Rattle.spec_opening.specs.Causes.{cause1, cause2, cause3, cause4, cause5, cause6, cause7, cause8, cause9, table_of, causes, opening_number}
-use Rattle.spec_opening.specs.declared.Opening.{Opening}
-use Rattle.spec_opening.specs.declared.Opening.TheVariants.{Refused, Sound}
 use Rattle.spec_opening.specs.Opened.{Outcome, refused, opened, open_out, work_of, opening_of}
 use Rattle.spec_opening.proofs.Order as order
 
@@ -206,15 +208,15 @@ module _ (pointer modes : ℕ) (s w t : List ℕ) where
   unfolding opening_of
   is_opened_lem e = rw (e, opening_of)
 
-  module _ (r : Opening) (w' t' : List ℕ) (contract : open_out r w' t' ≡ opening_of pointer modes s w t) where
-    pub opened_says : (c e : ℕ) → r ≡ Sound c e → Success pointer modes s w t c e w' t'
+  module _ (r : Result Counts Cause) (w' t' : List ℕ) (contract : open_out r w' t' ≡ opening_of pointer modes s w t) where
+    pub opened_says : (n : Counts) → r ≡ Ok n → Success pointer modes s w t n.types n.enumerators w' t'
     unfolding open_out
-    opened_says c e f = go (eqb num 0) refl
+    opened_says n f = go (eqb num 0) refl
       where
-        out : opened c e w' t' ≡ opening_of pointer modes s w t
-        out = sym (ap (λ (q : Opening). open_out q w' t') f) ∙ contract
+        out : opened n.types n.enumerators w' t' ≡ opening_of pointer modes s w t
+        out = sym (ap (λ (q : Result Counts Cause). open_out q w' t') f) ∙ contract
 
-        go : (q : Bool) → eqb num 0 ≡ q → Success pointer modes s w t c e w' t'
+        go : (q : Bool) → eqb num 0 ≡ q → Success pointer modes s w t n.types n.enumerators w' t'
         go true g =
             let is = out ∙ is_opened_lem g in
             record {
@@ -226,14 +228,14 @@ module _ (pointer modes : ℕ) (s w t : List ℕ) where
             }
         go false g = absurd (true≢false (ap is_opened (out ∙ is_refused_lem g)))
 
-    pub refused_says : (n : ℕ) → r ≡ Refused n → Refusal pointer s w t n w' t'
+    pub refused_says : (c : Cause) → r ≡ Err c → Refusal pointer s w t (refusal_number c) w' t'
     unfolding open_out
-    refused_says n f = go (eqb num 0) refl
+    refused_says c f = go (eqb num 0) refl
       where
-        out : refused n w' t' ≡ opening_of pointer modes s w t
-        out = sym (ap (λ (q : Opening). open_out q w' t') f) ∙ contract
+        out : refused (refusal_number c) w' t' ≡ opening_of pointer modes s w t
+        out = sym (ap (λ (q : Result Counts Cause). open_out q w' t') f) ∙ contract
 
-        go : (q : Bool) → eqb num 0 ≡ q → Refusal pointer s w t n w' t'
+        go : (q : Bool) → eqb num 0 ≡ q → Refusal pointer s w t (refusal_number c) w' t'
         go true g = absurd (true≢false (sym (ap is_opened (out ∙ is_opened_lem g))))
         go false g =
             let is = out ∙ is_refused_lem g in

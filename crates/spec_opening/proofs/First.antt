@@ -1,11 +1,10 @@
 -- The first cause that holds: a law for each return of header_cause. Assumes nothing.
 use Prim.Native.Nat.{ℕ, ◌<◌, ◌≤◌}
-use mathlib.Core.Path.{◌≡◌, refl, ◌∙◌, sym}
+use mathlib.Core.Path.{◌≡◌, ◌∙◌, sym}
 use mathlib.Core.Bool.{Bool, true, false, not}
 use mathlib.Core.List.{List}
 use lib.ListN.{length}
-use lib.Dec.{eqb}
-use borrow.Author.Tests.{lt-ltb, le-ltb, ne_eqb, not-false, not-true}
+use borrow.Author.Tests.{lt-ltb, le-ltb, not-false, not-true}
 use Rattle.spec_linux_btf.specs.Section.{header_sound}
 use Rattle.btf_open_causes.specs.header.Header.{bad_strings}
 use Rattle.spec_opening.specs.Causes.{cause1, cause2, cause3, cause4, first_of, early}

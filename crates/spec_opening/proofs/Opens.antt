@@ -21,7 +21,6 @@ use Rattle.spec_bytes.specs.declared.refusal.Refusal.{Refusal}
 use Rattle.spec_bytes.specs.declared.refusal.Refusal.TheVariants.{PointerSize, SectionTooLong, BadHeader, BadStrings, BadRecord, BadReference, PrototypeHeld, Loop, WorkShort, NoSuchId, SessionClosed, TooDeep, Cycle, NamelessTypedef, AlignmentZero, Overflow, TextFull, Misplaced, NoDeclaration, NoField, CeilingPassed, OutputShort}
 use Rattle.spec_bytes.specs.Refusals.{refusal_number}
 use Rattle.btf_open_causes.specs.declared.records.Counts.{Counts}
-use Rattle.spec_opening.specs.declared.Opening.TheVariants.{Refused, Sound}
 use Rattle.btf_open_causes.specs.header.Header.{btf_of}
 use Rattle.btf_open_causes.specs.records.Pass.{count_p, enums_p, index_p, Scan, unsound, found, scan_out, scan_p, scan_section}
 use Rattle.spec_opening.specs.Table.{described_in, types_of, enumerators_of, empty_index, index_for, index_of}
@@ -335,26 +334,26 @@ module _ (p modes : ℕ) (s w t : List ℕ) where
   opens_sound e = rw (e, opening_of)
 
   module _ (r : Result Counts Refusal) (start : List ℕ) (er : examine_out r start ≡ examined p s (length w)) where
-    pub open_refused : (c : Refusal) → r ≡ Err c → (n : ℕ) → n ≡ refusal_number c → open_out (Refused n) w t ≡ opening_of p modes s w t
+    pub open_refused : (c : Refusal) → r ≡ Err c → open_out (Err c) w t ≡ opening_of p modes s w t
     unfolding open_out examine_out
-    open_refused c e n en = go (eqb num 0) refl
+    open_refused c e = go (eqb num 0) refl
       where
-        is : refused_by n ≡ examined p s (length w)
-        is = ap refused_by en ∙ sym (ap (λ (q : Result Counts Refusal). examine_out q start) e) ∙ er
+        is : refused_by (refusal_number c) ≡ examined p s (length w)
+        is = sym (ap (λ (q : Result Counts Refusal). examine_out q start) e) ∙ er
 
-        go : (q : Bool) → eqb num 0 ≡ q → open_out (Refused n) w t ≡ opening_of p modes s w t
+        go : (q : Bool) → eqb num 0 ≡ q → open_out (Err c) w t ≡ opening_of p modes s w t
         go true f = absurd (true≢false (ap is_refused (is ∙ is_sound_lem f)))
         go false f = ap (λ (n : ℕ). refused n w t) (ap number_in (is ∙ is_refused_lem f)) ∙ sym (opens_refused f)
 
     pub open_sound : (counts : Counts) → r ≡ Ok counts → (t' : List ℕ) → t' ≡ replicate (length t) 0 → (w' : List ℕ) → w' ≡ replicate (length w) 0 → (b : TypeTable) → b ≡ btf_of s p modes counts.types
-        → (w'' : List ℕ) → w'' ≡ filled b s start counts.enumerators w' → (w''' : List ℕ) → w''' ≡ takers_in modes b counts.enumerators s w'' → open_out (Sound counts.types counts.enumerators) w''' t' ≡ opening_of p modes s w t
+        → (w'' : List ℕ) → w'' ≡ filled b s start counts.enumerators w' → (w''' : List ℕ) → w''' ≡ takers_in modes b counts.enumerators s w'' → open_out (Ok counts) w''' t' ≡ opening_of p modes s w t
     unfolding open_out examine_out work_of
     open_sound counts e t' et w' ew b eb w'' ef w''' el = go (eqb num 0) refl
       where
         is : sound_with counts.types counts.enumerators start ≡ examined p s (length w)
         is = sym (ap (λ (q : Result Counts Refusal). examine_out q start) e) ∙ er
 
-        go : (q : Bool) → eqb num 0 ≡ q → open_out (Sound counts.types counts.enumerators) w''' t' ≡ opening_of p modes s w t
+        go : (q : Bool) → eqb num 0 ≡ q → open_out (Ok counts) w''' t' ≡ opening_of p modes s w t
         go true f =
             let n_is : counts.types ≡ types_of s = ap types_with (is ∙ is_sound_lem f) in
             let m_is : counts.enumerators ≡ enumerators_of s = ap enums_with (is ∙ is_sound_lem f) in

@@ -1,7 +1,5 @@
 -- Opening a section: the number, the values, and what is left in the work and in the text.
 use Rattle.std.specs.Prelude.{ℕ, true, false, List, length, replicate, eqb, Result, Ok, Err}
-use Rattle.spec_opening.specs.declared.Opening.{Opening}
-use Rattle.spec_opening.specs.declared.Opening.TheVariants.{Refused, Sound}
 use Rattle.spec_bytes.specs.declared.refusal.Refusal.{Refusal}
 use Rattle.spec_bytes.specs.Refusals.{refusal_number}
 use Rattle.btf_open_causes.specs.declared.records.Counts.{Counts}
@@ -17,9 +15,9 @@ pub data Outcome : Type 0 where
   opened : ℕ → ℕ → List ℕ → List ℕ → Outcome
 
 -- what the code's answer, and work and text at its exit, say
-unfoldable pub open_out : Opening → List ℕ → List ℕ → Outcome
-open_out (Refused n) w t = refused n w t
-open_out (Sound types enumerators) w t = opened types enumerators w t
+unfoldable pub open_out : Result Counts Refusal → List ℕ → List ℕ → Outcome
+open_out (Err c) w t = refused (refusal_number c) w t
+open_out (Ok counts) w t = opened counts.types counts.enumerators w t
 
 -- the work of n bytes that a successful opening leaves: places of records and of enumerators, tags, name classes, with bit 3 of the modes
 -- the lists of taken numbers, and else zeros

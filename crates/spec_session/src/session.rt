@@ -1,4 +1,5 @@
 // The session record and the answers; what every call of a session shares, as definitions in specs/ with laws in proofs/.
+use spec_bytes::refusal::Refusal;
 
 // The lengths are those at opening; text_len is the length of the text so far. Bit 0 of modes is union_as_struct,
 // bit 1 strong_arrays, bit 2 the placing mode, bit 3 names that cannot collide. visits: the types and members looked
@@ -16,26 +17,26 @@ pub struct Session {
     pub visits: u32,
 }
 
-// Accepted: the value. Refused: the number and the value.
+// A refused call: its refusal, and the value that goes with it.
 #[derive(Clone, Copy)]
-pub enum Answer {
-    Accepted(u32),
-    Refused(u32, u32),
+pub struct Refused {
+    pub refusal: Refusal,
+    pub value: u32,
 }
 
-// What a call comes to: the session after it, and the answer.
+// What a call comes to: the session after it, and the answer, a value or a refusal.
 #[derive(Clone, Copy)]
 pub struct Turn {
     pub session: Session,
-    pub answer: Answer,
+    pub answer: Result<u32, Refused>,
 }
 
-// Where the requests of a call have come to: the length of the accepted text, and the refusal that ended them, or 0; with a
-// refusal also the visits counted before it.
+// Where the requests of a call have come to: the length of the accepted text, and the refusal that stopped them, if one did;
+// with a refusal also the visits counted before it.
 #[derive(Clone, Copy)]
 pub struct Reached {
     pub len: u32,
-    pub number: u32,
+    pub stop: Option<Refusal>,
     pub visits: u32,
 }
 
@@ -43,7 +44,7 @@ pub struct Reached {
 #[derive(Clone, Copy)]
 pub struct Tally {
     pub len: u32,
-    pub number: u32,
+    pub stop: Option<Refusal>,
     pub accepted: u32,
     pub visits: u32,
 }

@@ -1,12 +1,12 @@
 -- The places of the words of types and enumerators. Assumes nothing.
 use Prim.Native.Nat.{ℕ, ◌+◌, ◌-◌, ◌*◌, ◌/◌, ◌%◌, ◌<◌, ◌≤◌}
-use mathlib.Core.Path.{◌≡◌, refl, ap, ◌∙◌}
+use mathlib.Core.Path.{◌≡◌, refl, ap, ap₂, ◌∙◌}
 use mathlib.Core.List.{List}
+use lib.ListN.{get_or}
 use mathlib.Core.Bool.{true, false}
 use borrow.Author.Tests.{lt-ltb, le-ltb, le-leb, lt-leb, ne_eqb}
 use Rattle.spec_bytes.specs.words.Words.{get_word, put_word, one_more}
 use Rattle.spec_bytes.specs.words.Three.{three_in}
-use Rattle.spec_bytes.specs.declared.words.Three.{Three}
 use Rattle.spec_type_table.specs.declared.types.TypeTable.{TypeTable}
 use Rattle.spec_type_table.specs.declared.types.BtfType.{BtfType as Record}
 use Rattle.spec_type_table.specs.declared.types.Entries.{Entries}
@@ -59,9 +59,13 @@ module _ (b : TypeTable) (s : List ℕ) where
   unfolding three_in section_three section_word
   three_is at = refl
 
-  pub record_is : (at : ℕ) (w : Three) → w ≡ section_three b s at → record { at = at; name_off = w.first; info = w.second; type_id = w.third } ≡ record_at b s at
+  -- what an array of three has at its places
+  item : (at : ℕ) (w : List ℕ) → w ≡ section_three b s at → (k : ℕ) → get_or w k 0 ≡ get_or (section_three b s at) k 0
+  item at w e k = ap (λ (t : List ℕ). get_or t k 0) e
+
+  pub record_is : (at : ℕ) (w : List ℕ) → w ≡ section_three b s at → record { at = at; name_off = get_or w 0 0; info = get_or w 1 0; type_id = get_or w 2 0 } ≡ record_at b s at
   unfolding record_at section_three
-  record_is at w e = λ i. record { at = at; name_off = (e i).first; info = (e i).second; type_id = (e i).third }
+  record_is at w e = λ i. record { at = at; name_off = item at w e 0 i; info = item at w e 1 i; type_id = item at w e 2 i }
 
   pub void_zero : (w : List ℕ) (id : ℕ) (r : Record) → id ≡ 0 → r ≡ void_record → r ≡ record_by_id b s w id
   unfolding record_by_id
@@ -75,18 +79,18 @@ module _ (b : TypeTable) (s : List ℕ) where
   unfolding record_by_id
   by_id w id at r n l f e = rw (ne_eqb id 0 n, record_by_id, lt-leb b.types id l) (e ∙ ap (record_at b s) f)
 
-  module _ (t : Record) (k p : ℕ) (w : Three) (e : Entries) (ee : e ≡ entries_of t) (ep : p ≡ member_at e.at k) (ew : w ≡ section_three b s p) where
-    member_place_is : w ≡ section_three b s (member_at t.at k)
-    member_place_is = ew ∙ ap (section_three b s) (ep ∙ ap (λ (x : Entries). member_at x.at k) ee)
+  module _ (t : Record) (k p : ℕ) (w : List ℕ) (e : Entries) (ee : e ≡ entries_of t) (ep : p ≡ member_at e.at k) (ew : w ≡ section_three b s p) where
+    at_member : (j : ℕ) → get_or w j 0 ≡ get_or (section_three b s (member_at t.at k)) j 0
+    at_member = item (member_at t.at k) w (ew ∙ ap (section_three b s) (ep ∙ ap (λ (x : Entries). member_at x.at k) ee))
 
-    pub member_bits : flag_of t.info ≡ true → record { name_off = w.first; type_id = w.second; bit_offset = w.third % 16777216; bit_size = w.third / 16777216 } ≡ member_of b s t k
+    pub member_bits : flag_of t.info ≡ true → record { name_off = get_or w 0 0; type_id = get_or w 1 0; bit_offset = get_or w 2 0 % 16777216; bit_size = get_or w 2 0 / 16777216 } ≡ member_of b s t k
     unfolding member_of section_three
-    member_bits f = rw (f, member_of) (λ i. record { name_off = (member_place_is i).first; type_id = (member_place_is i).second; bit_offset = (member_place_is i).third % 16777216; bit_size = (member_place_is i).third / 16777216 })
+    member_bits f = rw (f, member_of) (λ i. record { name_off = at_member 0 i; type_id = at_member 1 i; bit_offset = at_member 2 i % 16777216; bit_size = at_member 2 i / 16777216 })
 
-    pub member_plain : flag_of t.info ≡ false → record { name_off = w.first; type_id = w.second; bit_offset = w.third; bit_size = 0 } ≡ member_of b s t k
+    pub member_plain : flag_of t.info ≡ false → record { name_off = get_or w 0 0; type_id = get_or w 1 0; bit_offset = get_or w 2 0; bit_size = 0 } ≡ member_of b s t k
     unfolding member_of section_three
-    member_plain f = rw (f, member_of) (λ i. record { name_off = (member_place_is i).first; type_id = (member_place_is i).second; bit_offset = (member_place_is i).third; bit_size = 0 })
+    member_plain f = rw (f, member_of) (λ i. record { name_off = at_member 0 i; type_id = at_member 1 i; bit_offset = at_member 2 i; bit_size = 0 })
 
-  pub value64_is : (at k p : ℕ) (w : Three) → p ≡ member_at at k → w ≡ section_three b s p → w.third * 4294967296 + w.second ≡ section_word b s (member_at at k + 8) * 4294967296 + section_word b s (member_at at k + 4)
+  pub value64_is : (at k p : ℕ) (w : List ℕ) → p ≡ member_at at k → w ≡ section_three b s p → get_or w 2 0 * 4294967296 + get_or w 1 0 ≡ section_word b s (member_at at k + 8) * 4294967296 + section_word b s (member_at at k + 4)
   unfolding section_three
-  value64_is at k p w ep ew = ap (λ (x : Three). x.third * 4294967296 + x.second) (ew ∙ ap (section_three b s) ep)
+  value64_is at k p w ep ew = let q = item (member_at at k) w (ew ∙ ap (section_three b s) ep) in ap₂ (λ (x y : ℕ). x * 4294967296 + y) (q 2) (q 1)

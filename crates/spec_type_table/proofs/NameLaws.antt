@@ -6,11 +6,11 @@ use mathlib.Core.Bool.{Bool, true, false, not, ◌||◌}
 use mathlib.Core.Logic.{⊎_elim}
 use native.Mathlib.Omega.{arith}
 use native.Mathlib.Numerals.{add-one}
-use lib.ListN.{length, get_or, set, take, drop, drop_of_length-le, get_or-eq_default}
+use lib.ListN.{length, get_or, take, drop, drop_of_length-le, get_or-eq_default, take-append-drop}
 use lib.Seq.{drop-cons, take-suc, take-length}
 use lib.Dec.{eqb, leb}
 use denote.Ref.{Bor}
-use Rattle.std.specs.Prelude.{Option, Some, None, cond, nat_lt, position, ◌==◌}
+use Rattle.std.specs.Prelude.{Err, IsErrAnd, Option, Some, None, cond, nat_lt, position, ◌==◌}
 use Rattle.std.proofs.lemmas.Bool.Decides.{nat_tests}
 use Rattle.std.proofs.lemmas.List.Sums.{prefix_len-le-length}
 use Rattle.std.specs.Option.{unwrap_or}
@@ -22,9 +22,11 @@ use Rattle.std.specs.Cmp.Lexicographic.{pointwise}
 use Rattle.std.proofs.lemmas.Iterator.{YieldsList}
 use Rattle.std.specs.List.{position_or_len}
 use borrow.Author.Tests.{eq-eqb, ne_eqb, eqb-true, eqb-false, le-leb, lt-leb}
-use Rattle.spec_bytes.specs.text.Text.{whole, put_out, put_text}
+use Rattle.spec_bytes.specs.declared.refusal.Refusal.{Refusal}
+use Rattle.spec_bytes.specs.text.Text.{whole}
+use Rattle.spec_bytes.specs.text.Placed.{Placed, put_out, put_text}
 use Rattle.spec_bytes.proofs.words.Laws.{le_or_lt}
-use Rattle.spec_bytes.proofs.text.TextLaws.{put_seq, put_same, put_empty, put_full, put_set}
+use Rattle.spec_bytes.proofs.text.TextLaws.{put_seq, put_same, put_empty, put_halts}
 use Rattle.spec_c_dumper.specs.rules.Types.{is_empty}
 use Rattle.spec_c_dumper.specs.rules.Names.{starts_with, contains, escaped_byte, escaped}
 use Rattle.spec_type_table.specs.declared.types.TypeTable.{TypeTable}
@@ -84,66 +86,6 @@ first_of (suc x ∷ l) = let n : suc x ≡ 0 → ⊥ = λ e. omega arith in sym 
 pub empty_first : (b : TypeTable) (s : List ℕ) (off : ℕ) (r : List ℕ) → r ≡ drop (name_place b off) s → is_empty (str_at b s off) ≡ eqb (get_or r 0 0) 0
 unfolding name_at
 empty_first b s off r e = rw e (first_of (drop (name_place b off) s))
-
--- ---- the bytes of a name, passed one by one: r is the section from the name on
-
--- shut, so that the answers of a loop find its arguments
-pub passed : List ℕ → ℕ → List ℕ
-passed r i = take i r
-
-module _ (r : List ℕ) where
-  passed_none : passed r 0 ≡ []
-  unfolding passed
-  passed_none = refl
-
-  passed_more : (i : ℕ) → i < length r → passed r (i + 1) ≡ passed r i ++ (get_or r i 0 ∷ [])
-  unfolding passed
-  passed_more i l = rw add-one (take-suc r i 0 l)
-
-  pub pass_none : name_at r 0 ≡ passed r 0 ++ name_at r 0
-  pass_none = rw passed_none
-
-  module _ (i : ℕ) (inv : name_at r 0 ≡ passed r i ++ name_at r i) where
-    pub pass_more : i < length r → (get_or r i 0 ≡ 0 → ⊥) → name_at r 0 ≡ passed r (i + 1) ++ name_at r (i + 1)
-    pass_more l n =
-        inv
-        ∙ ap (λ (x : List ℕ). passed r i ++ x) (name_more r i n)
-        ∙ sym (append_assoc (passed r i) (get_or r i 0 ∷ []) (name_at r (i + 1)))
-        ∙ ap (λ (x : List ℕ). x ++ name_at r (i + 1)) (sym (passed_more i l))
-
-    pass_all : name_at r i ≡ [] → passed r i ≡ name_at r 0
-    pass_all z = sym (inv ∙ ap (λ (x : List ℕ). passed r i ++ x) z ∙ append-nil (passed r i))
-
-  -- ---- written one by one
-  module _ (t : List ℕ) (to : ℕ) where
-    pub write_none : put_out to t ≡ put_text t to (whole (passed r 0))
-    write_none = rw passed_none (put_empty t to)
-
-    module _ (i : ℕ) (u : List ℕ) (p : ℕ) (out : put_out p u ≡ put_text t to (whole (passed r i))) where
-      pub write_more : i < length r → p < length u → put_out (p + 1) (set u p (get_or r i 0)) ≡ put_text t to (whole (passed r (i + 1)))
-      write_more l m =
-          rw (passed_more i l)
-          (put_seq t to (passed r i) (get_or r i 0 ∷ []) p u (p + 1) (set u p (get_or r i 0)) out (put_set u p (get_or r i 0) m))
-
-      module _ (b : TypeTable) (s : List ℕ) (off : ℕ) (er : r ≡ drop (name_place b off) s) (inv : name_at r 0 ≡ passed r i ++ name_at r i) where
-        name_is : name_at r 0 ≡ str_at b s off
-        unfolding name_at
-        name_is = rw er
-
-        write_all : passed r i ≡ name_at r 0 → put_out p u ≡ put_text t to (whole (str_at b s off))
-        write_all z = put_same t to (passed r i) (str_at b s off) p u (z ∙ name_is) out
-
-        pub write_zero : get_or r i 0 ≡ 0 → put_out p u ≡ put_text t to (whole (str_at b s off))
-        write_zero z = write_all (pass_all i inv (name_zero r i z))
-
-        pub write_end : length r ≤ i → put_out p u ≡ put_text t to (whole (str_at b s off))
-        write_end l = write_all (pass_all i inv (name_end r i l))
-
-        pub write_full : (get_or r i 0 ≡ 0 → ⊥) → p ≤ length u → length u ≤ p → put_out (length u + 18) u ≡ put_text t to (whole (str_at b s off))
-        write_full n l m =
-            put_same t to (passed r i ++ name_at r i) (str_at b s off) (length u + 18) u
-            (sym inv ∙ name_is)
-            (put_seq t to (passed r i) (name_at r i) p u (length u + 18) u out (put_full u p (name_at r i) l (rw (name_more r i n) (omega arith))))
 
 -- ---- a word in a name
 starts_short : (w l : List ℕ) → length l < length w → starts_with w l ≡ false
@@ -293,13 +235,13 @@ escaped_one x = sym (append-nil (escaped_byte x))
 pub escaped_first : List ℕ → ℕ → List ℕ
 escaped_first name i = escaped (take i name)
 
-module _ (t : List ℕ) (at : ℕ) (name : List ℕ) where
+module _ (t : List ℕ) (at : Placed) (name : List ℕ) where
   pub escape_none : put_out at t ≡ put_text t at (whole (escaped_first name 0))
   unfolding escaped_first escaped
   escape_none = put_empty t at
 
-  module _ (i : ℕ) (u : List ℕ) (p : ℕ) (out : put_out p u ≡ put_text t at (whole (escaped_first name i))) where
-    pub escape_more : (v : List ℕ) (q : ℕ) → i < length name → put_out q v ≡ put_text u p (whole (escaped_byte (get_or name i 0))) → put_out q v ≡ put_text t at (whole (escaped_first name (i + 1)))
+  module _ (i : ℕ) (u : List ℕ) (p : Placed) (out : put_out p u ≡ put_text t at (whole (escaped_first name i))) where
+    pub escape_more : (v : List ℕ) (q : Placed) → i < length name → put_out q v ≡ put_text u p (whole (escaped_byte (get_or name i 0))) → put_out q v ≡ put_text t at (whole (escaped_first name (i + 1)))
     unfolding escaped_first
     escape_more v q l o =
         put_same t at (escaped (take i name) ++ escaped_byte (get_or name i 0)) (escaped (take (i + 1) name)) q v one
@@ -314,3 +256,11 @@ module _ (t : List ℕ) (at : ℕ) (name : List ℕ) where
     pub escape_all : i ≡ length name → put_out p u ≡ put_text t at (whole (escaped name))
     unfolding escaped_first
     escape_all e = put_same t at (escaped (take i name)) (escaped name) p u (ap escaped (rw e (take-length name))) out
+
+  -- a byte that could not be written ends the whole
+  pub escape_stops : (i : ℕ) (u : List ℕ) (c : Refusal) (r : Placed) → put_out (Err c) u ≡ put_text t at (whole (escaped_first name i)) → IsErrAnd r (λ e. e ≡ c) → put_out r u ≡ put_text t at (whole (escaped name))
+  unfolding escaped_first
+  escape_stops i u c r o e =
+      put_same t at (escaped (take i name) ++ escaped (drop i name)) (escaped name) r u
+      (sym (escaped_append (take i name) (drop i name)) ∙ ap escaped (take-append-drop i name))
+      (put_halts t at (escaped (take i name)) (escaped (drop i name)) c r u o e)

@@ -1,7 +1,6 @@
 -- Words of a section and the parts of a record, as the Linux documentation has them.
 use Rattle.std.specs.Prelude.{ℕ, ◌+◌, ◌*◌, ◌/◌, ◌%◌, Bool, true, false, List, [], ◌∷◌, leb, eqb, get_or, Option, Some, None}
 use Rattle.spec_bytes.specs.words.Words.{word_in}
-use Rattle.spec_bytes.specs.declared.words.Three.{Three}
 use Rattle.spec_type_table.specs.declared.types.TypeTable.{TypeTable}
 use Rattle.spec_type_table.specs.declared.types.BtfType.{BtfType}
 use Rattle.spec_type_table.specs.declared.types.BtfMember.{BtfMember}
@@ -13,8 +12,8 @@ unfoldable pub section_word : TypeTable → List ℕ → ℕ → ℕ
 section_word b s at = word_in b.big_endian s at
 
 -- three of them in a row
-unfoldable pub section_three : TypeTable → List ℕ → ℕ → Three
-section_three b s at = record { first = section_word b s at; second = section_word b s (at + 4); third = section_word b s (at + 8) }
+unfoldable pub section_three : TypeTable → List ℕ → ℕ → List ℕ
+section_three b s at = section_word b s at ∷ section_word b s (at + 4) ∷ section_word b s (at + 8) ∷ []
 
 -- struct btf_type, "info" bits arrangement: bits 0-15 vlen, bits 24-28 kind, bit 31 kind_flag
 abbrev pub vlen_of : ℕ → ℕ

@@ -6,8 +6,11 @@ use native.Mathlib.Omega.{arith}
 use native.Mathlib.Numerals.{add-one}
 use lib.ListN.{length, get_or, set, take, drop, replicate, length-append, length-drop}
 use lib.Seq.{length-take-le, take-take, take-add, take-append-le, take-append-add, drop-append-add, drop-drop, take_at, paste, paste-suc, get_or-drop}
-use Rattle.spec_bytes.proofs.text.TextLaws.{out_done, put_fits, put_full, whole_is, place_length, went}
-use Rattle.spec_bytes.specs.text.Text.{whole, bytes, done, put_out, place, put_text}
+use Rattle.std.specs.Prelude.{Ok, Err}
+use Rattle.spec_bytes.specs.declared.refusal.Refusal.TheVariants.{TextFull}
+use Rattle.spec_bytes.proofs.text.TextLaws.{put_fits, put_full, whole_is, went}
+use Rattle.spec_bytes.specs.text.Text.{whole, bytes}
+use Rattle.spec_bytes.specs.text.Placed.{Placed, done, put_out, place, put_text}
 use Rattle.base_keywords.specs.table.Fixed.{part, copied, table, fixed_words, occurrences, starts}
 
 -- ---- the code's steps
@@ -95,28 +98,24 @@ copied_over t at s start k n u v l h room fits e₁ e₂ =
     ∙ ap (copied t at s start) q
 
 -- no room for a part
-pub part_none : (t : List ℕ) (at : ℕ) (s : List ℕ) (start n : ℕ) → at ≤ length t → length t < at + n → start + n ≤ length s
-    → put_out (length t + 18) t ≡ put_text t at (whole (part s start n))
-part_none t at s start n l h fits =
+pub part_none : (t : List ℕ) (at : ℕ) (s : List ℕ) (start n : ℕ) → length t - at < n → start + n ≤ length s
+    → put_out (Err TextFull) t ≡ put_text t (Ok at) (whole (part s start n))
+part_none t at s start n h fits =
     let e : length (part s start n) ≡ n = length-take-le n (drop start s) (omega (arith, length-drop start s)) in
-    put_full t at (part s start n) l (omega arith)
+    put_full t at (part s start n) (omega arith)
 
 -- a part copied is that part written
 pub copied_put : (t : List ℕ) (at : ℕ) (s : List ℕ) (start n : ℕ) (u : List ℕ) → at + n ≤ length t → start + n ≤ length s
-    → u ≡ copied t at s start n → put_out (at + n) u ≡ put_text t at (whole (part s start n))
-unfolding copied bytes
+    → u ≡ copied t at s start n → put_out (Ok (at + n)) u ≡ put_text t (Ok at) (whole (part s start n))
+unfolding copied bytes put_out
 copied_put t at s start n u room fits e =
     let l : length (part s start n) ≡ n = length-take-le n (drop start s) (omega (arith, length-drop start s)) in
-    let r : at + length (part s start n) ≤ length t = omega arith in
     let q : at + n ≡ at + length (part s start n) = omega arith in
-    ap (put_out (at + n)) e
-    ∙ out_done (at + n) (place t at (part s start n)) (omega (arith, place_length t at (part s start n) r))
-    ∙ ap (done (place t at (part s start n))) q
-    ∙ sym (put_fits t at (whole (part s start n)) r ∙ whole_is t at (part s start n))
+    ap₂ done e q ∙ sym (put_fits t at (whole (part s start n)) (omega arith) ∙ whole_is t at (part s start n))
 
 -- a part written at a slice's start stands there
-pub put_back : (t s : List ℕ) (start n r : ℕ) (u : List ℕ) → n ≤ length t → start + n ≤ length s
-    → put_out r u ≡ put_text t 0 (whole (part s start n)) → take n u ≡ part s start n
+pub put_back : (t s : List ℕ) (start n : ℕ) (r : Placed) (u : List ℕ) → n ≤ length t → start + n ≤ length s
+    → put_out r u ≡ put_text t (Ok 0) (whole (part s start n)) → take n u ≡ part s start n
 unfolding bytes
 put_back t s start n r u room fits e =
     let l : length (part s start n) ≡ n = length-take-le n (drop start s) (omega (arith, length-drop start s)) in

@@ -1,6 +1,7 @@
 -- The fixed words of the text, in one table.
 use Rattle.std.specs.Prelude.{ℕ, suc, Bool, true, false, List, [], ◌∷◌, ◌++◌, eqb, take, drop}
-use Rattle.spec_bytes.specs.text.Text.{ascii, place}
+use Rattle.spec_bytes.specs.text.Text.{ascii}
+use Rattle.spec_bytes.specs.text.Placed.{place}
 
 -- n bytes of a table, those from a place on
 abbrev pub part : List ℕ → ℕ → ℕ → List ℕ

@@ -5,8 +5,8 @@ ghost use Rattle.spec_session.specs.calls.Lists.{ids_in};
 
 use session_record::record_bytes::{answered, listed};
 use session_record::record_words::{ANSWER_CLOSED, RECORD_BYTES, decode};
-use session_requests::options::Options;
-use session_requests::requests::{request_list, request_type, request_types};
+use session_requests::options::{Options, Wanted};
+use session_requests::requests::request;
 
 #[unsafe(no_mangle)]
 pub extern "C" fn btfdump_dump_type_within(
@@ -27,7 +27,7 @@ pub extern "C" fn btfdump_dump_type_within(
     }
     let o = Options::Within(ceiling);
     let s = decode(record);
-    let d = request_type(s, section, work, text, &mut [0u8; 0], id, o);
+    let d = request(s, section, work, text, &mut [0u8; 0], Wanted::One(id), o);
     *made = d.made;
     answered(record, d.turn)
 }
@@ -50,7 +50,7 @@ pub extern "C" fn btfdump_dump_types_within(
     }
     let o = Options::Within(ceiling);
     let s = decode(record);
-    let d = request_types(s, section, work, text, &mut [0u8; 0], o);
+    let d = request(s, section, work, text, &mut [0u8; 0], Wanted::All, o);
     *made = d.made;
     answered(record, d.turn)
 }
@@ -79,7 +79,7 @@ pub extern "C" fn btfdump_dump_list_within(
     }
     let o = Options::Within(ceiling);
     let s = decode(record);
-    let d = request_list(s, section, work, text, &mut [0u8; 0], ids, o);
+    let d = request(s, section, work, text, &mut [0u8; 0], Wanted::Ids(ids), o);
     *made = d.made;
     listed(record, d.turn)
 }

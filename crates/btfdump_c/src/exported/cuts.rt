@@ -3,7 +3,7 @@ ghost use Rattle.std.specs.Prelude.{◌≡◌};
 ghost use Rattle.spec_c_calls.specs.Cuts.{cut_export_of, cut_export};
 
 use session_cut::call::cut;
-use session_record::record_words::{ANSWER_CLOSED, RECORD_BYTES, decode, number_and_value};
+use session_record::record_words::{ANSWER_CLOSED, RECORD_BYTES, decode, number_or_value};
 
 #[unsafe(no_mangle)]
 pub extern "C" fn btfdump_cut(record: &[u8], section: &[u8], ids: &[u8], out: &mut [u8]) -> u64
@@ -14,5 +14,5 @@ pub extern "C" fn btfdump_cut(record: &[u8], section: &[u8], ids: &[u8], out: &m
         return ANSWER_CLOSED;
     }
     let a = cut(decode(record), section, ids, out);
-    number_and_value(a)
+    number_or_value(a)
 }

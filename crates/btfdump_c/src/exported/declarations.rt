@@ -13,9 +13,8 @@ pub extern "C" fn btfdump_read_declaration(text: &[u8], chain: &mut [u64]) -> u6
     if chain.len() < CHAIN_WORDS {
         return ANSWER_SHORT_SLICE;
     }
-    let n = read_declaration(text, chain);
-    if n == 0 {
-        return ANSWER_NO_DECLARATION;
+    match read_declaration(text, chain) {
+        Some(n) => n as u64,
+        None => ANSWER_NO_DECLARATION,
     }
-    n as u64
 }

@@ -5,8 +5,8 @@ ghost use Rattle.spec_session.specs.calls.Lists.{ids_in};
 
 use session_record::record_bytes::{answered, listed};
 use session_record::record_words::{ANSWER_CLOSED, RECORD_BYTES, decode};
-use session_requests::options::Options;
-use session_requests::requests::{request_list, request_type, request_types};
+use session_requests::options::{Options, Wanted};
+use session_requests::requests::request;
 
 #[unsafe(no_mangle)]
 pub extern "C" fn btfdump_dump_type_causes(
@@ -26,7 +26,8 @@ pub extern "C" fn btfdump_dump_type_causes(
         return ANSWER_CLOSED;
     }
     let s = decode(record);
-    let d = request_type(s, section, work, text, list, id, Options::Listed);
+    let o = Options::Listed;
+    let d = request(s, section, work, text, list, Wanted::One(id), o);
     *count = d.count as u64;
     answered(record, d.turn)
 }
@@ -48,7 +49,8 @@ pub extern "C" fn btfdump_dump_types_causes(
         return ANSWER_CLOSED;
     }
     let s = decode(record);
-    let d = request_types(s, section, work, text, list, Options::Listed);
+    let o = Options::Listed;
+    let d = request(s, section, work, text, list, Wanted::All, o);
     *count = d.count as u64;
     answered(record, d.turn)
 }
@@ -76,7 +78,8 @@ pub extern "C" fn btfdump_dump_list_causes(
         return ANSWER_CLOSED;
     }
     let s = decode(record);
-    let d = request_list(s, section, work, text, list, ids, Options::Listed);
+    let o = Options::Listed;
+    let d = request(s, section, work, text, list, Wanted::Ids(ids), o);
     *count = d.count as u64;
     listed(record, d.turn)
 }

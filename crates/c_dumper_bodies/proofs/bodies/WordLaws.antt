@@ -7,7 +7,8 @@ use mathlib.Core.Logic.{⊎_elim}
 use native.Mathlib.Omega.{arith}
 use lib.Dec.{eqb, leb}
 use borrow.Author.Tests.{ne_eqb, le-leb, lt-leb}
-use Rattle.spec_bytes.specs.text.Text.{ascii, whole, put_out, put_text}
+use Rattle.spec_bytes.specs.text.Text.{ascii, whole}
+use Rattle.spec_bytes.specs.text.Placed.{Placed, put_out, put_text}
 use Rattle.spec_bytes.specs.text.Decimal.{decimal}
 use Rattle.spec_bytes.proofs.words.Laws.{le_or_lt}
 use Rattle.spec_bytes.proofs.text.TextLaws.{put_seq}
@@ -26,7 +27,7 @@ pub star_apart : (p : Bool) → p ≡ false → ascii " *" ≡ star_text p
 unfolding star_text
 star_apart p e = rw e
 
-pub count_put : (t : List ℕ) (at n a : ℕ) (t₁ : List ℕ) (c : ℕ) (t₂ : List ℕ) (r : ℕ) (u : List ℕ)
+pub count_put : (t : List ℕ) (at : Placed) (n : ℕ) (a : Placed) (t₁ : List ℕ) (c : Placed) (t₂ : List ℕ) (r : Placed) (u : List ℕ)
     → put_out a t₁ ≡ put_text t at (whole (ascii "[")) → put_out c t₂ ≡ put_text t₁ a (whole (decimal n)) → put_out r u ≡ put_text t₂ c (whole (ascii "]"))
     → put_out r u ≡ put_text t at (whole (brackets n))
 unfolding brackets
@@ -76,7 +77,7 @@ pub size_none : (n : ℕ) → n ≡ 0 → [] ≡ size_text n
 unfolding size_text
 size_none n e = rw e
 
-pub size_put : (t : List ℕ) (at n a : ℕ) (t₁ : List ℕ) (r : ℕ) (u : List ℕ) → (n ≡ 0 → ⊥)
+pub size_put : (t : List ℕ) (at : Placed) (n : ℕ) (a : Placed) (t₁ : List ℕ) (r : Placed) (u : List ℕ) → (n ≡ 0 → ⊥)
     → put_out a t₁ ≡ put_text t at (whole (ascii ": ")) → put_out r u ≡ put_text t₁ a (whole (decimal n))
     → put_out r u ≡ put_text t at (whole (size_text n))
 unfolding size_text
@@ -123,6 +124,6 @@ pub type_at : (b : TypeTable) (s : List ℕ) (p at : ℕ) → p ≡ param_at at 
 unfolding param_of
 type_at b s p at e = ap (λ (x : ℕ). section_word b s (x + 4)) e
 
-pub tag_put_lem : (t : List ℕ) (at : ℕ) (f g : Bool) (word : List ℕ) (name : Name) (r : ℕ) (u : List ℕ) → f ≡ g
+pub tag_put_lem : (t : List ℕ) (at : Placed) (f g : Bool) (word : List ℕ) (name : Name) (r : Placed) (u : List ℕ) → f ≡ g
     → put_out r u ≡ put_text t at (whole (attribute f word name)) → put_out r u ≡ put_text t at (whole (attribute g word name))
 tag_put_lem t at f g word name r u e p = rw e at p

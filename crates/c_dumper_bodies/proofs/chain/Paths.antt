@@ -8,7 +8,8 @@ use native.Mathlib.Omega.{arith}
 use native.Mathlib.Numerals.{add-one}
 use lib.ListN.{length}
 use borrow.Author.Tests.{lt-ltb, le-ltb}
-use Rattle.spec_bytes.specs.text.Text.{ascii, whole, join, put_out, put_text}
+use Rattle.spec_bytes.specs.text.Text.{ascii, whole, join}
+use Rattle.spec_bytes.specs.text.Placed.{Placed, put_out, put_text}
 use Rattle.spec_bytes.proofs.text.TextLaws.{put_seq, put_same, put_empty, join_on}
 use Rattle.spec_c_dumper.specs.rules.Writer.{got}
 use Rattle.spec_c_dumper.specs.rules.Decl.{Entry, base, ends, leads, link_of, chain_on, chain_of, qualifier, mods, no_mods}
@@ -234,15 +235,15 @@ module _ (b : TypeTable) (s w : List ℕ) (start : ℕ) where
           down_end (skipped b s w start (suc n)) (suc n) (omega arith) ∙ sym (words_none n h)
 
   -- after emit_mods, where m entries stay
-  pub put_mods : (t : List ℕ) (at r : ℕ) (u : List ℕ) (m n : ℕ) → m ≡ skipped b s w start n → put_out r u ≡ put_text t at (whole (mods_down b s w start m n)) → put_out r u ≡ put_text t at (whole (mods (chain_at b s w start n)))
+  pub put_mods : (t : List ℕ) (at r : Placed) (u : List ℕ) (m n : ℕ) → m ≡ skipped b s w start n → put_out r u ≡ put_text t at (whole (mods_down b s w start m n)) → put_out r u ≡ put_text t at (whole (mods (chain_at b s w start n)))
   put_mods t at r u m n e o = put_same t at _ _ r u (ap (λ (x : ℕ). mods_down b s w start x n) e ∙ mods_down_lem n) o
 
   -- ---- emit_mods' loop: what is left is the whole
-  module _ (t₀ : List ℕ) (at m n : ℕ) (t : List ℕ) (p k : ℕ) (i : put_text t p (whole (mods_down b s w start m k)) ≡ put_text t₀ at (whole (mods_down b s w start m n))) where
+  module _ (t₀ : List ℕ) (at : Placed) (m n : ℕ) (t : List ℕ) (p : Placed) (k : ℕ) (i : put_text t p (whole (mods_down b s w start m k)) ≡ put_text t₀ at (whole (mods_down b s w start m n))) where
     pub mods_end : k ≤ m → put_out p t ≡ put_text t₀ at (whole (mods_down b s w start m n))
     mods_end h = put_empty t p ∙ ap (λ (x : List ℕ). put_text t p (whole x)) (sym (down_end m k h)) ∙ i
 
-    pub mods_turn : (j : ℕ) (x : Kind) (q : ℕ) (t₁ : List ℕ) (r : ℕ) (t₂ : List ℕ) → k ≡ suc j → m < k → x ≡ kind_at b s w start j
+    pub mods_turn : (j : ℕ) (x : Kind) (q : Placed) (t₁ : List ℕ) (r : Placed) (t₂ : List ℕ) → k ≡ suc j → m < k → x ≡ kind_at b s w start j
         → put_out q t₁ ≡ put_text t p (whole (qualifier (qualifier_of x))) → put_out r t₂ ≡ put_text t₁ q (whole (ascii " "))
         → put_text t₂ r (whole (mods_down b s w start m j)) ≡ put_text t₀ at (whole (mods_down b s w start m n))
     unfolding join

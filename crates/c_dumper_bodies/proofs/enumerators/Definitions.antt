@@ -3,20 +3,24 @@ use Prim.Native.Nat.{ℕ, zero, suc, ◌+◌}
 use mathlib.Core.Path.{◌≡◌, refl, ap, ◌∙◌, sym}
 use mathlib.Core.List.{List, [], ◌∷◌, ◌++◌, append_assoc}
 use mathlib.Core.Bool.{true, false}
-use Rattle.spec_bytes.specs.text.Text.{ascii, pfx, whole, join, put_out, put_text}
+use Rattle.std.specs.Prelude.{Err, IsErrAnd}
+use Rattle.spec_bytes.specs.declared.refusal.Refusal.{Refusal}
+use Rattle.spec_bytes.specs.text.Text.{ascii, pfx, whole, join}
+use Rattle.spec_bytes.specs.text.Placed.{Placed, put_out, put_text}
+use Rattle.spec_bytes.proofs.text.TextLaws.{put_seq, put_ended}
 use Rattle.spec_c_dumper.specs.rules.Types.{Name, Enumerator, Btf as Rules}
 use Rattle.spec_c_dumper.specs.rules.Writer.{Writer, after, next, put, nothing, ◌⨾◌}
 use Rattle.spec_c_dumper.specs.rules.Place.{out_of, put_said}
 use Rattle.spec_c_dumper.specs.rules.Names.{Naming, tag_space, resolve_type_name, builtin}
 use Rattle.spec_c_dumper.specs.rules.Decl.{deeper, sep_name, emit_values, enum_body, emit_enum_def, enum_word}
-use Rattle.spec_c_dumper.proofs.rules.Writing.{put_only, put_nothing, put_then}
+use Rattle.spec_c_dumper.proofs.rules.Writing.{put_only, put_nothing, put_then, said_past, said_ended}
 use Rattle.spec_type_table.specs.declared.types.TypeTable.{TypeTable}
 use Rattle.spec_type_table.specs.Table.{from, work_naming}
 use Rattle.c_dumper_name_versions.proofs.names.Resolve.{put_type_name}
 use Rattle.c_dumper_bodies.specs.enumerators.Heads.{enum_head, enum_end}
 
 -- ---- emit_enum_head, put_enum_name: the name was resolved, and two texts written
-module _ (b : TypeTable) (id : ℕ) (name n w w' : List ℕ) (t : List ℕ) (at p : ℕ) (t₁ : List ℕ) (r : ℕ) (t₂ : List ℕ)
+module _ (b : TypeTable) (id : ℕ) (name n w w' : List ℕ) (t : List ℕ) (at p : Placed) (t₁ : List ℕ) (r : Placed) (t₂ : List ℕ)
     (e : put n w' ≡ resolve_type_name (work_naming b) tag_space id name put w) where
   two : (a c : List ℕ) → put_out p t₁ ≡ put_text t at (whole a) → put_out r t₂ ≡ put_text t₁ p (whole c) → out_of r t₂ w' ≡ put_said t at ((put a ⨾ put c) w')
   two a c e₁ e₂ = put_then t at (put a) (put c) w' p t₁ w' r t₂ w' (put_only t at a w' p t₁ e₁) (put_only t₁ p c w' r t₂ e₂)
@@ -30,9 +34,11 @@ module _ (b : TypeTable) (id : ℕ) (name n w w' : List ℕ) (t : List ℕ) (at 
   word_put B e₁ e₂ = put_type_name b tag_space tag_space id name n w w' (λ x. put (ascii "enum ") ⨾ put x) t at r t₂ w' e (two _ _ e₁ e₂)
 
 -- ---- emit_enum_end
-pub end_put : (t : List ℕ) (at lvl r : ℕ) (u : List ℕ) → put_out r u ≡ put_text t at (whole (ascii "\n" ++ pfx lvl ++ ascii "}")) → put_out r u ≡ put_text t at (whole (enum_end lvl))
+pub end_put : (t : List ℕ) (at : Placed) (lvl : ℕ) (p : Placed) (t₁ : List ℕ) (q : Placed) (t₂ : List ℕ) (r : Placed) (u : List ℕ)
+    → put_out p t₁ ≡ put_text t at (whole (ascii "\n")) → put_out q t₂ ≡ put_text t₁ p (whole (pfx lvl)) → put_out r u ≡ put_text t₂ q (whole (ascii "}"))
+    → put_out r u ≡ put_text t at (whole (enum_end lvl))
 unfolding enum_end
-end_put t at lvl r u e = e
+end_put t at lvl p t₁ q t₂ r u e₁ e₂ e₃ = put_seq t at (ascii "\n" ++ pfx lvl) (ascii "}") q t₂ r u (put_seq t at (ascii "\n") (pfx lvl) p t₁ q t₂ e₁ e₂) e₃
 
 end_is : (lvl : ℕ) (u : List ℕ) → put (enum_end lvl) u ≡ (put (ascii "\n") ⨾ put (pfx lvl) ⨾ put (ascii "}")) u
 unfolding enum_end put ◌⨾◌ next after join
@@ -45,7 +51,7 @@ values_any N B B' str id lvl i [] = refl
 values_any N B B' str id lvl i (v ∷ vs) = ap (◌⨾◌ _) (values_any N B B' str id lvl (i + 1) vs)
 
 -- ---- emit_enum_def, emit_enum64_def
-module _ (b : TypeTable) (B : Rules) (str : ℕ → List ℕ) (id : ℕ) (name : Name) (lvl : ℕ) (w t : List ℕ) (at : ℕ) where
+module _ (b : TypeTable) (B : Rules) (str : ℕ → List ℕ) (id : ℕ) (name : Name) (lvl : ℕ) (w t : List ℕ) (at : Placed) where
   pub def_builtin : (vs : List Enumerator) → builtin name ≡ true → out_of at t w ≡ put_said t at (emit_enum_def (work_naming b) B str id name vs lvl w)
   unfolding emit_enum_def
   def_builtin vs h = rw (h, emit_enum_def) (put_nothing t at w)
@@ -54,7 +60,15 @@ module _ (b : TypeTable) (B : Rules) (str : ℕ → List ℕ) (id : ℕ) (name :
   unfolding emit_enum_def enum_head
   def_is vs h = rw (h, emit_enum_def)
 
-  module _ (f : ℕ → Enumerator) (a : ℕ) (t₁ w₁ : List ℕ) (h : builtin name ≡ false) (e : out_of a t₁ w₁ ≡ put_said t at (enum_head (work_naming b) id name w)) where
+  -- the head stopped the writing
+  pub def_head : (vs : List Enumerator) (t₁ w₁ : List ℕ) (c : Refusal) (r : Placed) → builtin name ≡ false → out_of (Err c) t₁ w₁ ≡ put_said t at (enum_head (work_naming b) id name w)
+      → IsErrAnd r (λ x. x ≡ c) → out_of r t₁ w₁ ≡ put_said t at (emit_enum_def (work_naming b) B str id name vs lvl w)
+  def_head vs t₁ w₁ c r h e i =
+      put_then t at (enum_head (work_naming b) id name) (enum_body (work_naming b) B str id lvl vs) w (Err c) t₁ w₁ r t₁ w₁ e
+      (said_ended t₁ r c (enum_body (work_naming b) B str id lvl vs w₁) w₁ i)
+      ∙ ap (put_said t at) (sym (def_is vs h))
+
+  module _ (f : ℕ → Enumerator) (a : Placed) (t₁ w₁ : List ℕ) (h : builtin name ≡ false) (e : out_of a t₁ w₁ ≡ put_said t at (enum_head (work_naming b) id name w)) where
     body_none : (n : ℕ) → n ≡ 0 → nothing w₁ ≡ enum_body (work_naming b) B str id lvl (from f 0 n) w₁
     unfolding enum_body from
     body_none n z = ap (λ (m : ℕ). enum_body (work_naming b) B str id lvl (from f 0 m) w₁) (sym z)
@@ -73,7 +87,7 @@ module _ (b : TypeTable) (B : Rules) (str : ℕ → List ℕ) (id : ℕ) (name :
     body_some (suc n) z = refl
 
     -- some
-    pub def_some : (n : ℕ) (B' : Rules) (d c : ℕ) (t₂ : List ℕ) (g : ℕ) (t₃ w₃ : List ℕ) (r : ℕ) (t₄ : List ℕ) → (n ≡ 0 → ⊥) → d ≡ deeper lvl
+    pub def_some : (n : ℕ) (B' : Rules) (d : ℕ) (c : Placed) (t₂ : List ℕ) (g : Placed) (t₃ w₃ : List ℕ) (r : Placed) (t₄ : List ℕ) → (n ≡ 0 → ⊥) → d ≡ deeper lvl
         → put_out c t₂ ≡ put_text t₁ a (whole (ascii " {"))
         → out_of g t₃ w₃ ≡ put_said t₂ c (emit_values (work_naming b) B' str id d 0 (from f 0 n) w₁)
         → put_out r t₄ ≡ put_text t₃ g (whole (enum_end lvl))
@@ -92,3 +106,11 @@ module _ (b : TypeTable) (B : Rules) (str : ℕ → List ℕ) (id : ℕ) (name :
         values_here =
             ap (λ (x : ℕ). put_said t₂ c (emit_values (work_naming b) B' str id x 0 (from f 0 n) w₁)) ed
             ∙ ap (λ (v : Writer (List ℕ)). put_said t₂ c (v w₁)) (values_any (work_naming b) B' B str id (deeper lvl) 0 (from f 0 n))
+
+    -- the bracket did
+    pub def_open : (n : ℕ) (t₂ : List ℕ) (c : Refusal) (r : Placed) → (n ≡ 0 → ⊥) → put_out (Err c) t₂ ≡ put_text t₁ a (whole (ascii " {")) → IsErrAnd r (λ x. x ≡ c)
+        → out_of r t₂ w₁ ≡ put_said t at (emit_enum_def (work_naming b) B str id name (from f 0 n) lvl w)
+    def_open n t₂ c r z e₁ i =
+        def_some n B (deeper lvl) (Err c) t₂ (Err c) t₂ w₁ r t₂ z refl e₁
+        (said_past t₂ c (emit_values (work_naming b) B str id (deeper lvl) 0 (from f 0 n) w₁) w₁)
+        (put_ended t₂ r c (whole (enum_end lvl)) i)

@@ -3,16 +3,18 @@ use Prim.Native.Nat.{ℕ, suc, ◌+◌, ◌-◌, ◌<◌, ◌≤◌}
 use mathlib.Core.Path.{◌≡◌, refl, ap, ap₂, ◌∙◌, sym}
 use mathlib.Core.List.{List, [], ◌∷◌, ◌++◌, append_assoc}
 use native.Mathlib.Omega.{arith}
-use Rattle.std.specs.Prelude.{min, true, false, leb}
+use Rattle.std.specs.Prelude.{min, true, false, leb, Err, IsErrAnd}
+use Rattle.spec_bytes.specs.declared.refusal.Refusal.{Refusal}
 use Rattle.std.proofs.lemmas.Bool.Decides.{nat_tests}
-use Rattle.spec_bytes.specs.text.Text.{ascii, pfx, whole, join, put_out, put_text}
+use Rattle.spec_bytes.specs.text.Text.{ascii, pfx, whole, join}
+use Rattle.spec_bytes.specs.text.Placed.{Placed, put_out, put_text}
 use Rattle.spec_bytes.proofs.text.TextLaws.{put_seq}
 use Rattle.spec_c_dumper.specs.rules.Types.{Enumerator, Btf as Rules}
 use Rattle.spec_c_dumper.specs.rules.Writer.{Writer, after, next, put, ◌⨾◌}
 use Rattle.spec_c_dumper.specs.rules.Place.{out_of, put_said}
 use Rattle.spec_c_dumper.specs.rules.Names.{spelled, resolve_name}
 use Rattle.spec_c_dumper.specs.rules.Decl.{deeper, emit_values}
-use Rattle.spec_c_dumper.proofs.rules.Writing.{put_only, put_nothing, put_then}
+use Rattle.spec_c_dumper.proofs.rules.Writing.{put_only, put_nothing, put_then, said_ended}
 use Rattle.spec_type_table.specs.declared.types.TypeTable.{TypeTable}
 use Rattle.spec_type_table.specs.Cells.{get_field}
 use Rattle.spec_type_table.specs.Names.{str_at}
@@ -36,13 +38,13 @@ unfolding enumerator_of
 number_is w id first j e = within (first + j) ∙ ap (λ (x : ℕ). elim (leb (x + j) 4294967295) [ true ↦ x + j | false ↦ 4294967295 ]) e
 
 -- ---- emit_enumerator: the name's place and version are those of the rule
-pub head_is : (b : TypeTable) (s : List ℕ) (types e off lvl : ℕ) (n : Code) (w w' : List ℕ) (t : List ℕ) (at r : ℕ) (u : List ℕ)
+pub head_put : (b : TypeTable) (s : List ℕ) (types e off lvl : ℕ) (n : Code) (w w' t : List ℕ) (at p : Placed) (t₁ : List ℕ) (q : Placed) (t₂ : List ℕ) (o : Placed) (t₃ : List ℕ) (r : Placed) (u : List ℕ)
     → (n.off ≡ off) × (n.version ≡ (value_version_in types e w).version) × (w' ≡ (value_version_in types e w).names)
-    → put_out r u ≡ put_text t at (whole (ascii "\n" ++ pfx lvl ++ name_text b s n ++ ascii " = "))
+    → put_out p t₁ ≡ put_text t at (whole (ascii "\n")) → put_out q t₂ ≡ put_text t₁ p (whole (pfx lvl)) → put_out o t₃ ≡ put_text t₂ q (whole (name_text b s n)) → put_out r u ≡ put_text t₃ o (whole (ascii " = "))
     → (put_out r u ≡ put_text t at (whole (value_head lvl (spelled (str_at b s off) (value_version_in types e w).version)))) × (w' ≡ (value_version_in types e w).names)
 unfolding value_head
-head_is b s types e off lvl n w w' t at r u q o =
-    (o ∙ ap₂ (λ (x y : ℕ). put_text t at (whole (ascii "\n" ++ pfx lvl ++ spelled (str_at b s x) y ++ ascii " = "))) q.0 q.1, q.2)
+head_put b s types e off lvl n w w' t at p t₁ q t₂ o t₃ r u k e₁ e₂ e₃ e₄ =
+    (put_seq _ _ _ _ _ _ _ _ (put_seq _ _ _ _ _ _ _ _ (put_seq _ _ _ _ _ _ _ _ e₁ e₂) e₃) e₄ ∙ ap₂ (λ (x y : ℕ). put_text t at (whole (ascii "\n" ++ pfx lvl ++ spelled (str_at b s x) y ++ ascii " = "))) k.0 k.1, k.2)
 
 -- ---- a line
 -- what is written for a value with a name and a text
@@ -59,7 +61,7 @@ line_is lvl n val u =
     ∙ append_assoc (ascii "\n") (pfx lvl) (n ++ (ascii " = " ++ (val ++ ascii ","))))
 
 module _ (b : TypeTable) (s : List ℕ) (id i e off lvl : ℕ) (val w w' : List ℕ) (ee : e ≡ enumerator_of w id i) (ew : w' ≡ (value_version_in b.types e w).names) where
-  line_put : (t : List ℕ) (at a : ℕ) (t₁ : List ℕ) (c : ℕ) (t₂ : List ℕ) (q : ℕ) (t₃ : List ℕ)
+  line_put : (t : List ℕ) (at a : Placed) (t₁ : List ℕ) (c : Placed) (t₂ : List ℕ) (q : Placed) (t₃ : List ℕ)
       → put_out a t₁ ≡ put_text t at (whole (value_head lvl (spelled (str_at b s off) (value_version_in b.types e w).version)))
       → put_out c t₂ ≡ put_text t₁ a (whole val) → put_out q t₃ ≡ put_text t₂ c (whole (ascii ","))
       → out_of q t₃ w' ≡ put_said t at (resolve_name (work_naming b) id i (str_at b s off) (line lvl val) w)
@@ -78,15 +80,15 @@ from_none : {E : Type 0} (f : ℕ → E) (k n : ℕ) → n ≤ k → from f k (n
 unfolding from
 from_none f k n h = let e : n - k ≡ 0 = omega arith in ap (from f k) e
 
-module _ (b : TypeTable) (B : Rules) (str : ℕ → List ℕ) (f : ℕ → Enumerator) (id lvl n first : ℕ) (t₀ : List ℕ) (at : ℕ) (w₀ : List ℕ) where
+module _ (b : TypeTable) (B : Rules) (str : ℕ → List ℕ) (f : ℕ → Enumerator) (id lvl n first : ℕ) (t₀ : List ℕ) (at : Placed) (w₀ : List ℕ) where
   abbrev left : ℕ → Writer (List ℕ)
   left k = emit_values (work_naming b) B str id lvl k (from f k (n - k))
 
   -- the numbers of the values are as they were, and whatever writes what is left has written the whole
-  pub ValuesLeft : List ℕ → ℕ → List ℕ → ℕ → Type 0
+  pub ValuesLeft : List ℕ → Placed → List ℕ → ℕ → Type 0
   ValuesLeft text p w k =
       ((j : ℕ) → min (first + j) 4294967295 ≡ enumerator_of w id j)
-      × ((r : ℕ) (t u : List ℕ) → out_of r t u ≡ put_said text p (left k w) → out_of r t u ≡ put_said t₀ at (emit_values (work_naming b) B str id lvl 0 (from f 0 n) w₀))
+      × ((r : Placed) (t u : List ℕ) → out_of r t u ≡ put_said text p (left k w) → out_of r t u ≡ put_said t₀ at (emit_values (work_naming b) B str id lvl 0 (from f 0 n) w₀))
 
   pub values_start : first ≡ get_field w₀ id 12 → ValuesLeft t₀ at w₀ 0
   unfolding ValuesLeft
@@ -95,7 +97,7 @@ module _ (b : TypeTable) (B : Rules) (str : ℕ → List ℕ) (f : ℕ → Enume
       same : n - 0 ≡ n
       same = omega arith
 
-  module _ (text : List ℕ) (p : ℕ) (w : List ℕ) (k : ℕ) where
+  module _ (text : List ℕ) (p : Placed) (w : List ℕ) (k : ℕ) where
     one_more : k < n → left k w ≡ (resolve_name (work_naming b) id k (f k).name (line lvl (str (f k).value)) ⨾ left (k + 1)) w
     unfolding emit_values
     one_more h = ap (λ (vs : List Enumerator). emit_values (work_naming b) B str id lvl k vs w) (from_more f k n h)
@@ -108,7 +110,12 @@ module _ (b : TypeTable) (B : Rules) (str : ℕ → List ℕ) (f : ℕ → Enume
     unfolding ValuesLeft
     values_end i h = i.1 p text w (put_nothing text p w ∙ ap (put_said text p) (sym (none_left h)))
 
-    pub values_turn : (s : List ℕ) (e off v a : ℕ) (t₁ : List ℕ) (c : ℕ) (t₂ : List ℕ) (q : ℕ) (t₃ w' : List ℕ)
+    -- what stopped the writing of one line stopped the whole
+    pub values_stop : (c : Refusal) (r : Placed) → p ≡ Err c → ValuesLeft text p w k → IsErrAnd r (λ x. x ≡ c) → out_of r text w ≡ put_said t₀ at (emit_values (work_naming b) B str id lvl 0 (from f 0 n) w₀)
+    unfolding ValuesLeft
+    values_stop c r ep i j = i.1 r text w (said_ended text r c (left k w) w j ∙ ap (λ (x : Placed). put_said text x (left k w)) (sym ep))
+
+    pub values_turn : (s : List ℕ) (e off v : ℕ) (a : Placed) (t₁ : List ℕ) (c : Placed) (t₂ : List ℕ) (q : Placed) (t₃ w' : List ℕ)
         → ValuesLeft text p w k → k < n → e ≡ min (first + k) 4294967295 → str_at b s off ≡ (f k).name → v ≡ (f k).value
         → (put_out a t₁ ≡ put_text text p (whole (value_head lvl (spelled (str_at b s off) (value_version_in b.types e w).version)))) × (w' ≡ (value_version_in b.types e w).names)
         → put_out c t₂ ≡ put_text t₁ a (whole (str v)) → put_out q t₃ ≡ put_text t₂ c (whole (ascii ","))

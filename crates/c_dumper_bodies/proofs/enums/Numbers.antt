@@ -9,7 +9,8 @@ use lib.IntN.{ℤ}
 use mir.Syntax.{w32, w64}
 use mir.Val.{SFits, to_z, of_z}
 use mir.ValLaws.{to_z-of_z}
-use Rattle.spec_bytes.specs.text.Text.{ascii, whole, put_out, put_text}
+use Rattle.spec_bytes.specs.text.Text.{ascii, whole}
+use Rattle.spec_bytes.specs.text.Placed.{Placed, put_out, put_text}
 use Rattle.spec_bytes.specs.text.Decimal.{decimal}
 use Rattle.spec_bytes.specs.signed.Signed.{twos, signed, signed_ll}
 use Rattle.spec_c_dumper.specs.rules.Types.{Enumerator, Btf as Rules}
@@ -24,7 +25,7 @@ use Rattle.spec_type_table.specs.Table.{from, value_of, value64_of, values_of, v
 use Rattle.c_dumper_bodies.specs.enums.Widths.{is_wide, value_text, enumerator_at, enum_values, value_size, value_at}
 
 -- ---- the number
-module _ (t : List ℕ) (at r : ℕ) (u : List ℕ) (f : Bool) (v : ℕ) where
+module _ (t : List ℕ) (at r : Placed) (u : List ℕ) (f : Bool) (v : ℕ) where
   pub put_signed : (x : ℤ) → f ≡ true → SFits w32 x → x ≡ twos 2147483648 v → put_out r u ≡ put_text t at (whole (signed (to_z w32 (of_z w32 x)))) → put_out r u ≡ put_text t at (whole (enum_value f v))
   unfolding enum_value
   put_signed x h k e o = rw h (o ∙ ap (λ (y : ℤ). put_text t at (whole (signed y))) (to_z-of_z w32 x k ∙ e))
@@ -42,7 +43,7 @@ module _ (t : List ℕ) (at r : ℕ) (u : List ℕ) (f : Bool) (v : ℕ) where
   put_plain64 h o = rw h o
 
 -- ---- by the width: emit_value
-module _ (t : List ℕ) (p r : ℕ) (u : List ℕ) (w f : Bool) (b : TypeTable) (s : List ℕ) (at k v : ℕ) where
+module _ (t : List ℕ) (p r : Placed) (u : List ℕ) (w f : Bool) (b : TypeTable) (s : List ℕ) (at k v : ℕ) where
   abbrev Written : Type 0
   Written = put_out r u ≡ put_text t p (whole (value_text w f (enumerator_at w b s at k).value))
 
@@ -93,7 +94,7 @@ module _ (b : TypeTable) (s : List ℕ) (at k : ℕ) where
   value_name w place off ep eo = ap (str_at b s) (eo ∙ ap (section_word b s) ep) ∙ name_is w
 
 -- the entries, the width and the sign are the record's
-pub values_same : (b : TypeTable) (B : Rules) (s : List ℕ) (t : Record) (es : Entries) (w f : Bool) (id lvl : ℕ) (tx : List ℕ) (at : ℕ) (u : List ℕ) → es ≡ entries_of t → w ≡ is_wide t → f ≡ flag_of t.info
+pub values_same : (b : TypeTable) (B : Rules) (s : List ℕ) (t : Record) (es : Entries) (w f : Bool) (id lvl : ℕ) (tx : List ℕ) (at : Placed) (u : List ℕ) → es ≡ entries_of t → w ≡ is_wide t → f ≡ flag_of t.info
     → put_said tx at (emit_values (work_naming b) B (value_text w f) id lvl 0 (from (enumerator_at w b s es.at) 0 es.vlen) u) ≡ put_said tx at (emit_values (work_naming b) B (value_text (is_wide t) (flag_of t.info)) id lvl 0 (enum_values b s t) u)
 values_same b B s t es w f id lvl tx at u ee ew ef = λ i. put_said tx at (emit_values (work_naming b) B (value_text (ew i) (ef i)) id lvl 0 (from (enumerator_at (ew i) b s (ee i).at) 0 (ee i).vlen) u)
 

@@ -1,5 +1,6 @@
 // The parts of a composite's body and the words of a base that call no declaration.
-ghost use Rattle.std.specs.Prelude.{◌≡◌, eqb};
+ghost use Rattle.std.specs.Prelude.{◌≡◌, eqb, Ok, IfOk};
+ghost use Rattle.spec_bytes.specs.text.Placed.{placed};
 ghost use Rattle.spec_c_dumper.specs.rules.Writer.{put};
 ghost use Rattle.spec_c_dumper.specs.rules.Names.{ident_space, resolve_type_name};
 ghost use Rattle.spec_c_dumper.specs.rules.Layout.{end_of};
@@ -14,7 +15,8 @@ ghost use Rattle.c_dumper_bodies.specs.enums.Widths.{is_wide, value_text, enum_v
 use crate::bodies::words::{put_bit_size, put_last_newline, put_packed};
 use crate::enumerators::put_enum_name;
 use crate::enums::emit_enum_def;
-use base_bytes::put::{put_byte, put_tabs, put_two, stop};
+use base_bytes::put::{put_byte, put_bytes, put_tabs};
+use base_bytes::refusal::Refusal;
 use btf_layout::member_end::member_end;
 use btf_type_table::kind::{is_struct, vlen_of};
 use btf_type_table::table::Table;
@@ -39,9 +41,9 @@ pub fn emit_enum_word(
     id: u32,
     t: BtfType,
     lvl: u32,
-) -> usize
+) -> Result<usize, Refusal>
     ensures { out_of result text.new work.new
-        ≡ put_said text.old at (enum_text (work_naming b.now.head) (btf_of b.now.head b.now.section.now work.old)
+        ≡ put_said text.old (Ok at) (enum_text (work_naming b.now.head) (btf_of b.now.head b.now.section.now work.old)
         (value_text (is_wide t) (flag_of t.info)) id (record_name b.now.head b.now.section.now t)
         (enum_values b.now.head b.now.section.now t) lvl
         work.old) }
@@ -59,10 +61,10 @@ pub fn put_typedef_name(
     at: usize,
     id: u32,
     name_off: u32,
-) -> usize
+) -> Result<usize, Refusal>
     ensures { out_of result text.new work.new
-        ≡ put_said text.old at (resolve_type_name (work_naming b.now.head) ident_space id (str_at b.now.head b.now.section.now name_off) put
-        work.old) }
+        ≡ put_said text.old (Ok at) (resolve_type_name (work_naming b.now.head) ident_space id
+        (str_at b.now.head b.now.section.now name_off) put work.old) }
 {
     let name = resolve_type_name(b, work, id, name_off);
     put_name(b, text, at, name)
@@ -75,15 +77,15 @@ pub fn emit_composite_head(
     at: usize,
     id: u32,
     t: BtfType,
-) -> usize
+) -> Result<usize, Refusal>
     ensures { out_of result text.new work.new
-        ≡ put_said text.old at (composite_head (work_naming b.now.head) (btf_of b.now.head b.now.section.now work.old) no_decl id
+        ≡ put_said text.old (Ok at) (composite_head (work_naming b.now.head) (btf_of b.now.head b.now.section.now work.old) no_decl id
         (eqb (kind_of t.info) 4) (record_name b.now.head b.now.section.now t) work.old) }
 {
     let name = resolve_type_name(b, work, id, t.name_off);
-    let a = put_keyword(b.head, text, at, is_struct(t));
-    let c = put_sep_name(b, text, a, name);
-    put_two(text, c, b' ', b'{')
+    let a = put_keyword(b.head, text, at, is_struct(t))?;
+    let c = put_sep_name(b, text, a, name)?;
+    put_bytes(text, c, b" {")
 }
 
 // The size of a bit field, the member's tags and the semicolon.
@@ -95,26 +97,18 @@ pub fn emit_member_end(
     id: u32,
     k: u32,
     m: BtfMember,
-) -> Spot
-    ensures { (out_of result.at text.new work.now
-        ≡ put_said text.old at (member_tail (btf_of b.now.head b.now.section.now work.now) id k
+) -> Result<Spot, Refusal>
+    ensures { (out_of (placed (λ s. s.at) result) text.new work.now
+        ≡ put_said text.old (Ok at) (member_tail (btf_of b.now.head b.now.section.now work.now) id k
         (rule_member b.now.head b.now.section.now m) work.now))
-        × (result.offset ≡ end_from (end_of (btf_of b.now.head b.now.section.now work.now) (rule_member b.now.head b.now.section.now m))) }
+        × IfOk result (λ s. s.offset
+        ≡ end_from (end_of (btf_of b.now.head b.now.section.now work.now) (rule_member b.now.head b.now.section.now m))) }
 {
-    let a = put_bit_size(text, at, m.bit_size);
-    match member_end(b, work, m) {
-        Ok(offset) => {
-            let c = emit_decl_tags(b, work, text, a, id, k);
-            Spot {
-                at: put_byte(text, c, b';'),
-                offset: offset,
-            }
-        }
-        Err(c) => Spot {
-            at: stop(text, a, u32::from(c)),
-            offset: 0,
-        },
-    }
+    let a = put_bit_size(text, at, m.bit_size)?;
+    let offset = member_end(b, work, m)?;
+    let c = emit_decl_tags(b, work, text, a, id, k)?;
+    let at = put_byte(text, c, b';')?;
+    Ok(Spot { at, offset })
 }
 
 // The closing bracket, on a line of its own after members, and what is said of the whole.
@@ -127,14 +121,14 @@ pub fn emit_composite_end(
     t: BtfType,
     packed: bool,
     lvl: u32,
-) -> usize
+) -> Result<usize, Refusal>
     ensures { out_of result text.new work.now
-        ≡ put_said text.old at (composite_end (work_naming b.now.head) (btf_of b.now.head b.now.section.now work.now) no_decl id lvl
+        ≡ put_said text.old (Ok at) (composite_end (work_naming b.now.head) (btf_of b.now.head b.now.section.now work.now) no_decl id lvl
         (members_of b.now.head b.now.section.now t) packed work.now) }
 {
-    let a = put_last_newline(text, at, vlen_of(t.info));
-    let c = put_tabs(text, a, lvl);
-    let d = put_byte(text, c, b'}');
-    let e = put_packed(text, d, packed);
+    let a = put_last_newline(text, at, vlen_of(t.info))?;
+    let c = put_tabs(text, a, lvl)?;
+    let d = put_byte(text, c, b'}')?;
+    let e = put_packed(text, d, packed)?;
     emit_decl_tags(b, work, text, e, id, WHOLE_TYPE)
 }

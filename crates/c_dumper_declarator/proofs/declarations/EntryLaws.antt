@@ -5,7 +5,8 @@ use mathlib.Core.Bool.{Bool, true, false, not}
 use mathlib.Core.List.{List, [], ◌∷◌}
 use native.Mathlib.Omega.{arith}
 use lib.Dec.{eqb}
-use Rattle.spec_bytes.specs.text.Text.{ascii, whole, is_stopped, put_out, put_text}
+use Rattle.spec_bytes.specs.text.Text.{ascii, whole}
+use Rattle.spec_bytes.specs.text.Placed.{Placed, put_out, put_text}
 use Rattle.spec_bytes.proofs.text.TextLaws.{put_seq}
 use Rattle.spec_c_dumper.specs.rules.Writer.{Writer, put, nothing, ◌⨾◌}
 use Rattle.spec_c_dumper.specs.rules.Types as R
@@ -14,7 +15,7 @@ use Rattle.spec_c_dumper.specs.rules.Names.{ident_space, resolve_type_name}
 use Rattle.spec_c_dumper.specs.rules.Decl.{Entry, base, star, qual, array, proto, tag, is_array, mods, no_mods, qualifier, attribute, brackets, shown_params, parens, emit_name, emit_composite_fwd, base_word, emit_array, emit_proto, param_list, emit_fwd_def}
 use Rattle.spec_c_dumper.specs.alignment_once.Writers.{emit_type_chain_once, emit_composite_def_once}
 use Rattle.spec_c_dumper.specs.rules.Place.{out_of, put_said}
-use Rattle.spec_c_dumper.proofs.rules.Writing.{put_only, put_nothing, put_then, said_stopped}
+use Rattle.spec_c_dumper.proofs.rules.Writing.{put_only, put_nothing, put_then, said_ended}
 use Rattle.spec_type_table.specs.declared.types.TypeTable.{TypeTable}
 use Rattle.spec_type_table.specs.declared.types.BtfType.{BtfType as Record}
 use Rattle.spec_type_table.specs.Records.{kind_of, flag_of, record_by_id, entries_of}
@@ -24,7 +25,8 @@ use Rattle.c_dumper_bodies.specs.chain.Chains.{is_qualifier, qualifier_of, entry
 use Rattle.c_dumper_bodies.proofs.chain.Only.{links_below, links_mods, links_tag}
 use Rattle.c_dumper_bodies.proofs.chain.Paths.{chain_top, no_mods_skipped, put_mods}
 use Rattle.c_dumper_bodies.proofs.chain.Linked.{array_on, array_off, entry_star_lem, entry_array, entry_proto, entry_tag, entry_qual}
-use Rattle.std.specs.Prelude.{Some, None}
+use Rattle.std.specs.Prelude.{Some, None, Ok, Err, IsErrAnd}
+use Rattle.spec_bytes.specs.declared.refusal.Refusal.{Refusal}
 use Rattle.c_dumper_declarator.specs.declared.declarations.Rest.{Rest}
 use Rattle.c_dumper_declarator.specs.declared.declarations.Stand.{Stand}
 use Rattle.c_dumper_bodies.specs.bodies.Pieces.{entry_left, entry_star, entry_named, gap, star_text, word_below, params_below, array_below, proto_below, param_list_below, entry_text, chain_rest, enum_text}
@@ -53,12 +55,12 @@ module _ (b : TypeTable) (s : List ℕ) where
       ap only_links (no_mods_lem w id (n - 1) m em)
       ∙ links_mods _ (links_below _ _ (ap only_links (sym (chain_top b s w id n (λ z. omega arith))) ∙ l))
 
-  -- and a base, where no refusal stopped it
-  pub links_based : (below id lvl : ℕ) (w : List ℕ) (x : ℕ) (t : Record) (n m : ℕ) → m ≡ skipped b s w id n → (a : ℕ) (t₁ : List ℕ) (p : ℕ) (t₂ w₂ : List ℕ)
-      → out_of p t₂ w₂ ≡ put_said t₁ a (word_below (Q b s (T b s w)) (N b s) (T b s w) below lvl x (type_of b s t) w) → is_stopped (put_out p t₂) ≡ false
+  -- and a base, where it has come to a place
+  pub links_based : (below id lvl : ℕ) (w : List ℕ) (x : ℕ) (t : Record) (n m : ℕ) → m ≡ skipped b s w id n → (a : Placed) (t₁ : List ℕ) (p : ℕ) (t₂ w₂ : List ℕ)
+      → out_of (Ok p) t₂ w₂ ≡ put_said t₁ a (word_below (Q b s (T b s w)) (N b s) (T b s w) below lvl x (type_of b s t) w)
       → only_links (chain_at b s w id n) ≡ true → only_links (chain_at b s w₂ id m) ≡ true
-  links_based below id lvl w x t n m em a t₁ p t₂ w₂ o q l =
-      links_kept b s _ t₁ a w p t₂ w₂ id m (kept_word b s (T b s w) below [] lvl x (type_of b s t)) o q (ap only_links (no_mods_lem w id n m em) ∙ links_mods _ l)
+  links_based below id lvl w x t n m em a t₁ p t₂ w₂ o l =
+      links_kept b s _ t₁ a w p t₂ w₂ id m (kept_word b s (T b s w) below [] lvl x (type_of b s t)) o (ap only_links (no_mods_lem w id n m em) ∙ links_mods _ l)
 
   -- an entry of no other kind that leads on is a type tag
   pub is_tag : (w : List ℕ) (id n x : ℕ) (t : Record) (k : Kind) → 0 < n → x ≡ path_at b s w id (n - 1) → t ≡ record_by_id b s w x → k ≡ kind_named (kind_of t.info) → only_links (chain_at b s w id n) ≡ true
@@ -69,8 +71,8 @@ module _ (b : TypeTable) (s : List ℕ) where
       k ek n₁ n₂ n₃ n₄ n₅ n₆
 
   -- ---- emit_based: x is the id of the base, t its record; n entries lead there, and m of them stay
-  module _ (left id : ℕ) (fname : Name) (lvl : ℕ) (w txt : List ℕ) (at : ℕ) (h : left ≡ 0 → ⊥) (x : ℕ) (t : Record) (et : t ≡ record_by_id b s w x) (n m : ℕ) (em : m ≡ skipped b s w id n)
-      (a : ℕ) (t₁ : List ℕ) (o₁ : put_out a t₁ ≡ put_text txt at (whole (mods_down b s w id m n))) (p : ℕ) (t₂ w₂ : List ℕ)
+  module _ (left id : ℕ) (fname : Name) (lvl : ℕ) (w txt : List ℕ) (at : Placed) (h : left ≡ 0 → ⊥) (x : ℕ) (t : Record) (et : t ≡ record_by_id b s w x) (n m : ℕ) (em : m ≡ skipped b s w id n)
+      (a : Placed) (t₁ : List ℕ) (o₁ : put_out a t₁ ≡ put_text txt at (whole (mods_down b s w id m n))) (p : Placed) (t₂ w₂ : List ℕ)
       (o₂ : out_of p t₂ w₂ ≡ put_said t₁ a (word_below (Q b s (T b s w)) (N b s) (T b s w) (left - 1) lvl x (type_of b s t) w)) where
     base_here : (T b s w).type_by_id x ≡ type_of b s t
     unfolding btf_of
@@ -90,7 +92,7 @@ module _ (b : TypeTable) (s : List ℕ) where
         ∙ chain_turn (Q b s (T b s w)) (N b s) (T b s w) (left - 1) fname lvl true (base x) (chain_at b s w id n)
         ∙ ap (λ (c : List Entry). entry_text (Q b s (T b s w)) (N b s) (T b s w) (left - 1) fname lvl true (base x ∷ chain_at b s w id n) ⨾ chain_rest (Q b s (T b s w)) (N b s) (T b s w) (left - 1) fname lvl false false c) (sym (no_mods_lem w id n m em))
 
-    pub based_on : (r : ℕ) (t' w' : List ℕ)
+    pub based_on : (r : Placed) (t' w' : List ℕ)
         → out_of r t' w' ≡ put_said t₂ p (chain_rest (Q b s (T b s w₂)) (N b s) (T b s w₂) (left - 1) fname lvl false false (chain_at b s w₂ id m) w₂)
         → out_of r t' w' ≡ put_said txt at (emit_type_chain_once (Q b s (T b s w)) (N b s) (T b s w) left (base x ∷ chain_at b s w id n) fname lvl w)
     unfolding seen
@@ -103,7 +105,7 @@ module _ (b : TypeTable) (s : List ℕ) where
     unfolding chain_at
     no_entry e = rw e
 
-    pub based_name : (r : ℕ) (t' : List ℕ) → m ≡ 0 → put_out r t' ≡ put_text t₂ p (whole (name_after fname false))
+    pub based_name : (r : Placed) (t' : List ℕ) → m ≡ 0 → put_out r t' ≡ put_text t₂ p (whole (name_after fname false))
         → out_of r t' w₂ ≡ put_said txt at (emit_type_chain_once (Q b s (T b s w)) (N b s) (T b s w) left (base x ∷ chain_at b s w id n) fname lvl w)
     based_name r t' e o =
         based_on r t' w₂
@@ -111,12 +113,8 @@ module _ (b : TypeTable) (s : List ℕ) where
         (sym (ap (chain_rest (Q b s (T b s w₂)) (N b s) (T b s w₂) (left - 1) fname lvl false false) (no_entry e) ∙ chain_done (Q b s (T b s w₂)) (N b s) (T b s w₂) (left - 1) fname lvl false))
         (put_emit_name t₂ p fname false w₂ r t' o))
 
-    pub based_stops : is_stopped (put_out p t₂) ≡ true
-        → out_of p t₂ w₂ ≡ put_said txt at (emit_type_chain_once (Q b s (T b s w)) (N b s) (T b s w) left (base x ∷ chain_at b s w id n) fname lvl w)
-    based_stops q = based_on p t₂ w₂ (said_stopped t₂ p _ w₂ q)
-
   -- ---- emit_entry: c is what is left of the chain, x the id on top, t its record, k its kind
-  module _ (below id : ℕ) (fname : Name) (lvl : ℕ) (at : ℕ) (c : Rest) (w : List ℕ) (txt : List ℕ) (h : 0 < c.n) (x : ℕ) (ex : x ≡ path_at b s w id (c.n - 1)) (t : Record) (et : t ≡ record_by_id b s w x)
+  module _ (below id : ℕ) (fname : Name) (lvl : ℕ) (at : Placed) (c : Rest) (w : List ℕ) (txt : List ℕ) (h : 0 < c.n) (x : ℕ) (ex : x ≡ path_at b s w id (c.n - 1)) (t : Record) (et : t ≡ record_by_id b s w x)
       (k : Kind) (ek : k ≡ kind_named (kind_of t.info)) where
     abbrev below_top : List Entry
     below_top = chain_at b s w id (c.n - 1)
@@ -127,67 +125,89 @@ module _ (b : TypeTable) (s : List ℕ) where
         ∙ ap (λ (y : ℕ). entry_of b s w y ∷ below_top) (sym ex)
         ∙ ap (λ (y : Entry). y ∷ below_top) q
 
+    -- what the entry's writing comes to, by itself
+    abbrev Spelled : Placed → List ℕ → List ℕ → Type 0
+    Spelled p t' w' = out_of p t' w' ≡ put_said txt at (entry_text (Q b s (T b s w)) (N b s) (T b s w) below fname lvl c.last_was_ptr (chain_at b s w id c.n) w)
+
+    spelled_as : (e : Entry) (p : Placed) (t' w' : List ℕ) → entry_of b s w x ≡ e
+        → out_of p t' w' ≡ put_said txt at (entry_text (Q b s (T b s w)) (N b s) (T b s w) below fname lvl c.last_was_ptr (e ∷ below_top) w) → Spelled p t' w'
+    spelled_as e p t' w' q o = rw (top e q) o
+
     entry_goes : (e : Entry) (r : Stand) (p m : ℕ) (t' w' : List ℕ) → entry_of b s w x ≡ e → entry_named (e ∷ below_top) ≡ false
-        → r ≡ record { at = p; rest = Some (record { n = m; last_was_ptr = entry_star (e ∷ below_top) }) }
-        → out_of p t' w' ≡ put_said txt at (entry_text (Q b s (T b s w)) (N b s) (T b s w) below fname lvl c.last_was_ptr (e ∷ below_top) w)
-        → chain_at b s w id m ≡ entry_left (e ∷ below_top) → m ≤ c.n - 1 → Printed b s below id fname lvl at c w txt r t' w'
-    entry_goes e r p m t' w' q f er o l g = rw (er, top e q) (o, (l, refl, f, g))
+        → r ≡ record { at = p; rest = Some (record { n = m; last_was_ptr = entry_star (e ∷ below_top) }) } → Spelled (Ok p) t' w'
+        → chain_at b s w id m ≡ entry_left (e ∷ below_top) → m ≤ c.n - 1 → Printed b s below id fname lvl at c w txt (Ok r) t' w'
+    entry_goes e r p m t' w' q f er o l g = rw er (o, rw (top e q) (l, refl, f, g))
 
     entry_stands : (e : Entry) (r : Stand) (p : ℕ) (t' w' : List ℕ) → entry_of b s w x ≡ e → entry_named (e ∷ below_top) ≡ true → r ≡ record { at = p; rest = None }
-        → out_of p t' w' ≡ put_said txt at (entry_text (Q b s (T b s w)) (N b s) (T b s w) below fname lvl c.last_was_ptr (e ∷ below_top) w)
-        → Printed b s below id fname lvl at c w txt r t' w'
-    entry_stands e r p t' w' q f er o = rw (er, top e q) (o, f)
+        → Spelled (Ok p) t' w' → Printed b s below id fname lvl at c w txt (Ok r) t' w'
+    entry_stands e r p t' w' q f er o = rw er (o, rw (top e q) f)
 
-    pub arm_star : (r : Stand) (p : ℕ) (t' : List ℕ) → k ≡ Ptr → put_out p t' ≡ put_text txt at (whole (star_text c.last_was_ptr))
-        → r ≡ record { at = p; rest = Some (record { n = c.n - 1; last_was_ptr = true }) } → Printed b s below id fname lvl at c w txt r t' w
-    unfolding entry_text entry_star entry_named entry_left
-    arm_star r p t' e o er =
-        entry_goes star r p (c.n - 1) t' w (entry_star_lem b s w x t et (sym ek ∙ e)) refl er (put_only txt at _ w p t' o) refl (omega arith)
+    pub says_star : (p : Placed) (t' : List ℕ) → k ≡ Ptr → put_out p t' ≡ put_text txt at (whole (star_text c.last_was_ptr)) → Spelled p t' w
+    unfolding entry_text
+    says_star p t' e o = spelled_as star p t' w (entry_star_lem b s w x t et (sym ek ∙ e)) (put_only txt at _ w p t' o)
 
-    pub arm_array : (r : Stand) (n m a : ℕ) (t₁ w₁ : List ℕ) (p : ℕ) (t₂ : List ℕ) → k ≡ Array → n ≡ nelems_word b s t → m ≡ skipped b s w id (c.n - 1)
+    pub arm_star : (r : Stand) (p : ℕ) (t' : List ℕ) → k ≡ Ptr → Spelled (Ok p) t' w
+        → r ≡ record { at = p; rest = Some (record { n = c.n - 1; last_was_ptr = true }) } → Printed b s below id fname lvl at c w txt (Ok r) t' w
+    unfolding entry_star entry_named entry_left
+    arm_star r p t' e o er = entry_goes star r p (c.n - 1) t' w (entry_star_lem b s w x t et (sym ek ∙ e)) refl er o refl (omega arith)
+
+    pub says_array : (n m : ℕ) (a : Placed) (t₁ w₁ : List ℕ) (p : Placed) (t₂ : List ℕ) → k ≡ Array → n ≡ nelems_word b s t → m ≡ skipped b s w id (c.n - 1)
         → out_of a t₁ w₁ ≡ put_said txt at (array_below (Q b s (T b s w)) (N b s) (T b s w) below fname lvl c.last_was_ptr (chain_at b s w id m) w)
-        → put_out p t₂ ≡ put_text t₁ a (whole (brackets n))
-        → r ≡ record { at = p; rest = None } → Printed b s below id fname lvl at c w txt r t₂ w₁
-    unfolding entry_text entry_star entry_named entry_left chain_at
-    arm_array r n m a t₁ w₁ p t₂ e en em o₁ o₂ er =
-        entry_stands (array (nelems_word b s t)) r p t₂ w₁ (entry_array b s w x t et (sym ek ∙ e)) refl er
+        → put_out p t₂ ≡ put_text t₁ a (whole (brackets n)) → Spelled p t₂ w₁
+    unfolding entry_text chain_at
+    says_array n m a t₁ w₁ p t₂ e en em o₁ o₂ =
+        spelled_as (array (nelems_word b s t)) p t₂ w₁ (entry_array b s w x t et (sym ek ∙ e))
         (put_then txt at _ _ w a t₁ w₁ p t₂ w₁
         (said_as txt at _ _ w a t₁ w₁ (ap (array_below (Q b s (T b s w)) (N b s) (T b s w) below fname lvl c.last_was_ptr) (no_mods_lem w id (c.n - 1) m em)) o₁)
         (put_only t₁ a _ w₁ p t₂ (o₂ ∙ ap (put_text t₁ a) (ap whole (ap brackets en)))))
+
+    pub arm_array : (r : Stand) (p : ℕ) (t' w' : List ℕ) → k ≡ Array → Spelled (Ok p) t' w' → r ≡ record { at = p; rest = None } → Printed b s below id fname lvl at c w txt (Ok r) t' w'
+    unfolding entry_named
+    arm_array r p t' w' e o er = entry_stands (array (nelems_word b s t)) r p t' w' (entry_array b s w x t et (sym ek ∙ e)) refl er o
 
     qual_is : (k ≡ Volatile) ⊎ ((k ≡ Const) ⊎ (k ≡ Restrict)) → is_qualifier k ≡ true
     qual_is (inl e) = ap is_qualifier e
     qual_is (inr (inl e)) = ap is_qualifier e
     qual_is (inr (inr e)) = ap is_qualifier e
 
-    pub arm_qual : (r : Stand) (a : ℕ) (t₁ : List ℕ) (p : ℕ) (t₂ : List ℕ) → (k ≡ Volatile) ⊎ ((k ≡ Const) ⊎ (k ≡ Restrict))
-        → put_out a t₁ ≡ put_text txt at (whole (ascii " ")) → put_out p t₂ ≡ put_text t₁ a (whole (qualifier (qualifier_of k)))
-        → r ≡ record { at = p; rest = Some (record { n = c.n - 1; last_was_ptr = false }) } → Printed b s below id fname lvl at c w txt r t₂ w
-    unfolding entry_text entry_star entry_named entry_left
-    arm_qual r a t₁ p t₂ g o₁ o₂ er =
-        entry_goes (qual (qualifier_of (kind_named (kind_of t.info)))) r p (c.n - 1) t₂ w (entry_qual b s w x t et (ap is_qualifier (sym ek) ∙ qual_is g)) refl er
+    pub says_qual : (a : Placed) (t₁ : List ℕ) (p : Placed) (t₂ : List ℕ) → (k ≡ Volatile) ⊎ ((k ≡ Const) ⊎ (k ≡ Restrict))
+        → put_out a t₁ ≡ put_text txt at (whole (ascii " ")) → put_out p t₂ ≡ put_text t₁ a (whole (qualifier (qualifier_of k))) → Spelled p t₂ w
+    unfolding entry_text
+    says_qual a t₁ p t₂ g o₁ o₂ =
+        spelled_as (qual (qualifier_of (kind_named (kind_of t.info)))) p t₂ w (entry_qual b s w x t et (ap is_qualifier (sym ek) ∙ qual_is g))
         (put_only txt at _ w p t₂ (put_seq txt at _ _ a t₁ p t₂ o₁ (o₂ ∙ ap (λ (y : Kind). put_text t₁ a (whole (qualifier (qualifier_of y)))) ek)))
-        refl
-        (omega arith)
 
-    pub arm_proto : (r : Stand) (p : ℕ) (t' w' : List ℕ) → k ≡ FuncProto
+    pub arm_qual : (r : Stand) (p : ℕ) (t' : List ℕ) → (k ≡ Volatile) ⊎ ((k ≡ Const) ⊎ (k ≡ Restrict)) → Spelled (Ok p) t' w
+        → r ≡ record { at = p; rest = Some (record { n = c.n - 1; last_was_ptr = false }) } → Printed b s below id fname lvl at c w txt (Ok r) t' w
+    unfolding entry_star entry_named entry_left
+    arm_qual r p t' g o er =
+        entry_goes (qual (qualifier_of (kind_named (kind_of t.info)))) r p (c.n - 1) t' w (entry_qual b s w x t et (ap is_qualifier (sym ek) ∙ qual_is g)) refl er o refl (omega arith)
+
+    pub says_proto : (p : Placed) (t' w' : List ℕ) → k ≡ FuncProto
         → out_of p t' w' ≡ put_said txt at ((put (mods (chain_at b s w id (c.n - 1))) ⨾ proto_below (Q b s (T b s w)) (N b s) (T b s w) below fname lvl c.last_was_ptr (no_mods (chain_at b s w id (c.n - 1))) ⨾ param_list_below (Q b s (T b s w)) (N b s) (T b s w) below fname lvl (params_of b s t)) w)
-        → r ≡ record { at = p; rest = None } → Printed b s below id fname lvl at c w txt r t' w'
-    unfolding entry_text entry_star entry_named entry_left chain_at
+        → Spelled p t' w'
+    unfolding entry_text chain_at
+    says_proto p t' w' e o = spelled_as (proto (params_of b s t)) p t' w' (entry_proto b s w x t et (sym ek ∙ e)) o
+
+    pub arm_proto : (r : Stand) (p : ℕ) (t' w' : List ℕ) → k ≡ FuncProto → Spelled (Ok p) t' w' → r ≡ record { at = p; rest = None } → Printed b s below id fname lvl at c w txt (Ok r) t' w'
+    unfolding entry_named
     arm_proto r p t' w' e o er = entry_stands (proto (params_of b s t)) r p t' w' (entry_proto b s w x t et (sym ek ∙ e)) refl er o
 
-    pub arm_tag : (r : Stand) (m a : ℕ) (t₁ : List ℕ) (p : ℕ) (t₂ : List ℕ) → k ≡ TypeTag → m ≡ skipped b s w id (c.n - 1) → m ≤ c.n - 1
+    pub says_tag : (m : ℕ) (a : Placed) (t₁ : List ℕ) (p : Placed) (t₂ : List ℕ) → k ≡ TypeTag → m ≡ skipped b s w id (c.n - 1)
         → put_out a t₁ ≡ put_text txt at (whole (mods_down b s w id m (c.n - 1))) → put_out p t₂ ≡ put_text t₁ a (whole (attribute (flag_of t.info) (ascii "btf_type_tag") (record_name b s t)))
-        → r ≡ record { at = p; rest = Some (record { n = m; last_was_ptr = false }) } → Printed b s below id fname lvl at c w txt r t₂ w
-    unfolding entry_text entry_star entry_named entry_left
-    arm_tag r m a t₁ p t₂ e em g o₁ o₂ er =
-        entry_goes (tag (flag_of t.info) (record_name b s t)) r p m t₂ w (entry_tag b s w x t et (sym ek ∙ e)) refl er
+        → Spelled p t₂ w
+    unfolding entry_text
+    says_tag m a t₁ p t₂ e em o₁ o₂ =
+        spelled_as (tag (flag_of t.info) (record_name b s t)) p t₂ w (entry_tag b s w x t et (sym ek ∙ e))
         (also txt at _ _ w a t₁ p t₂ w (put_mods b s w id txt at a t₁ m (c.n - 1) em o₁) (put_only t₁ a _ w p t₂ o₂))
-        (no_mods_lem w id (c.n - 1) m em)
-        g
+
+    pub arm_tag : (r : Stand) (m p : ℕ) (t' : List ℕ) → k ≡ TypeTag → m ≡ skipped b s w id (c.n - 1) → m ≤ c.n - 1 → Spelled (Ok p) t' w
+        → r ≡ record { at = p; rest = Some (record { n = m; last_was_ptr = false }) } → Printed b s below id fname lvl at c w txt (Ok r) t' w
+    unfolding entry_star entry_named entry_left
+    arm_tag r m p t' e em g o er = entry_goes (tag (flag_of t.info) (record_name b s t)) r p m t' w (entry_tag b s w x t et (sym ek ∙ e)) refl er o (no_mods_lem w id (c.n - 1) m em) g
 
   -- ---- emit_function
-  pub function_put : (below id : ℕ) (fname : Name) (lvl : ℕ) (p : Bool) (w txt : List ℕ) (at n m a : ℕ) (t₁ : List ℕ) (f : ℕ) (t₂ w₂ : List ℕ) (r : ℕ) (t₃ w₃ : List ℕ) (t : Record) (es : Entries)
+  pub function_put : (below id : ℕ) (fname : Name) (lvl : ℕ) (p : Bool) (w txt : List ℕ) (at : Placed) (n m : ℕ) (a : Placed) (t₁ : List ℕ) (f : Placed) (t₂ w₂ : List ℕ) (r : Placed) (t₃ w₃ : List ℕ) (t : Record) (es : Entries)
       → m ≡ skipped b s w id n → es ≡ entries_of t
       → put_out a t₁ ≡ put_text txt at (whole (mods_down b s w id m n))
       → out_of f t₂ w₂ ≡ put_said t₁ a (proto_below (Q b s (T b s w)) (N b s) (T b s w) below fname lvl p (chain_at b s w id m) w)
@@ -202,7 +222,7 @@ module _ (b : TypeTable) (s : List ℕ) where
       (o₃ ∙ ap (λ (x : Entries). put_said t₂ f (params_below (Q b s (T b s w₂)) (N b s) (T b s w₂) below lvl (shown_params (from (param_of b s x.at) 0 x.vlen)) w₂)) ee))
 
   -- ---- emit_base: k is the kind of t
-  module _ (B : Rules) (below lvl id : ℕ) (t : Record) (k : Kind) (ek : k ≡ kind_named (kind_of t.info)) (txt : List ℕ) (at : ℕ) (u : List ℕ) (r : ℕ) (t' u' : List ℕ) where
+  module _ (B : Rules) (below lvl id : ℕ) (t : Record) (k : Kind) (ek : k ≡ kind_named (kind_of t.info)) (txt : List ℕ) (at : Placed) (u : List ℕ) (r : Placed) (t' u' : List ℕ) where
     abbrev Spoken : Type 0
     Spoken = out_of r t' u' ≡ put_said txt at (word_below (Q b s B) (N b s) B below lvl id (type_of b s t) u)
 
@@ -238,7 +258,7 @@ module _ (b : TypeTable) (s : List ℕ) where
     word_void (inr e) o eu = word_as Unknown e (ap (out_of r t') eu ∙ put_only txt at _ u r t' o)
 
   -- the kinds that have no words
-  module _ (B : Rules) (below lvl id : ℕ) (t : Record) (txt : List ℕ) (at : ℕ) (u : List ℕ) where
+  module _ (B : Rules) (below lvl id : ℕ) (t : Record) (txt : List ℕ) (at : Placed) (u : List ℕ) where
     quiet : (y : Kind) → (y ≡ Int → ⊥) → (y ≡ Float → ⊥) → (y ≡ Struct → ⊥) → (y ≡ Union → ⊥) → (y ≡ Enum → ⊥) → (y ≡ Enum64 → ⊥) → (y ≡ Fwd → ⊥) → (y ≡ Typedef → ⊥) → (y ≡ Void → ⊥) → (y ≡ Unknown → ⊥)
         → nothing u ≡ word_below (Q b s B) (N b s) B below lvl id (type_as b s t y) u
     unfolding base_word
@@ -270,7 +290,7 @@ module _ (b : TypeTable) (s : List ℕ) where
         word_as B below lvl id t k ek txt at u at txt u k refl (put_nothing txt at u ∙ ap (put_said txt at) (quiet k n₁ n₂ n₃ n₄ n₅ n₆ n₇ n₈ n₉ n₁₀))
 
   -- ---- emit_composite_word
-  module _ (below lvl id : ℕ) (is_struct : Bool) (name : Name) (sz : ℕ) (ms : List Member) (txt : List ℕ) (at : ℕ) (u : List ℕ) (r : ℕ) (t' u' : List ℕ) (B : Rules) where
+  module _ (below lvl id : ℕ) (is_struct : Bool) (name : Name) (sz : ℕ) (ms : List Member) (txt : List ℕ) (at : Placed) (u : List ℕ) (r : Placed) (t' u' : List ℕ) (B : Rules) where
     pub composite_inline : is_empty name ≡ true → out_of r t' u' ≡ put_said txt at (emit_composite_def_once (Q b s B) (N b s) B below id is_struct name sz ms lvl u)
         → out_of r t' u' ≡ put_said txt at (word_below (Q b s B) (N b s) B below lvl id (R.Composite is_struct name sz ms) u)
     unfolding base_word
@@ -282,17 +302,17 @@ module _ (b : TypeTable) (s : List ℕ) where
     composite_named x h e o = rw (h, base_word) (o ∙ ap (λ (q : Bool). put_said txt at (emit_composite_fwd (N b s) B id q name u)) e)
 
   -- ---- emit_array and emit_proto: n entries are left
-  module _ (below id : ℕ) (fname : Name) (lvl : ℕ) (p : Bool) (w txt : List ℕ) (at n : ℕ) where
+  module _ (below id : ℕ) (fname : Name) (lvl : ℕ) (p : Bool) (w txt : List ℕ) (at : Placed) (n : ℕ) where
     none : n ≡ 0 → chain_at b s w id n ≡ []
     unfolding chain_at
     none e = rw e
 
-    pub array_name : (r : ℕ) (t' : List ℕ) → n ≡ 0 → put_out r t' ≡ put_text txt at (whole (name_after fname p))
+    pub array_name : (r : Placed) (t' : List ℕ) → n ≡ 0 → put_out r t' ≡ put_text txt at (whole (name_after fname p))
         → out_of r t' w ≡ put_said txt at (array_below (Q b s (T b s w)) (N b s) (T b s w) below fname lvl p (chain_at b s w id n) w)
     unfolding emit_array
     array_name r t' e o = said_as txt at (emit_name fname p) _ w r t' w (sym (ap (array_below (Q b s (T b s w)) (N b s) (T b s w) below fname lvl p) (none e))) (put_emit_name txt at fname p w r t' o)
 
-    pub proto_name : (r : ℕ) (t' : List ℕ) → n ≡ 0 → put_out r t' ≡ put_text txt at (whole (name_after fname p))
+    pub proto_name : (r : Placed) (t' : List ℕ) → n ≡ 0 → put_out r t' ≡ put_text txt at (whole (name_after fname p))
         → out_of r t' w ≡ put_said txt at (proto_below (Q b s (T b s w)) (N b s) (T b s w) below fname lvl p (chain_at b s w id n) w)
     unfolding emit_proto
     proto_name r t' e o = said_as txt at (emit_name fname p) _ w r t' w (sym (ap (proto_below (Q b s (T b s w)) (N b s) (T b s w) below fname lvl p) (none e))) (put_emit_name txt at fname p w r t' o)
@@ -316,7 +336,7 @@ module _ (b : TypeTable) (s : List ℕ) where
       unfolding kind_at
       other_top g = array_off b s w (path_at b s w id (n - 1)) _ refl g
 
-      pub array_array : (k : Kind) (a : ℕ) (t₁ : List ℕ) (r : ℕ) (t₂ w₂ : List ℕ) → k ≡ kind_at b s w id (n - 1) → k ≡ Array
+      pub array_array : (k : Kind) (a : Placed) (t₁ : List ℕ) (r : Placed) (t₂ w₂ : List ℕ) → k ≡ kind_at b s w id (n - 1) → k ≡ Array
           → put_out a t₁ ≡ put_text txt at (whole (gap fname p)) → out_of r t₂ w₂ ≡ put_said t₁ a (inside w)
           → out_of r t₂ w₂ ≡ put_said txt at (array_below (Q b s (T b s w)) (N b s) (T b s w) below fname lvl p (chain_at b s w id n) w)
       unfolding parens
@@ -325,7 +345,11 @@ module _ (b : TypeTable) (s : List ℕ) where
           said_as txt at _ _ w r t₂ w₂ (sym (array_is_some ∙ ap (λ (x : Bool). put (gap fname p) ⨾ parens (not x) inside) q))
           (also txt at _ _ w a t₁ r t₂ w₂ o₁ o₂)
 
-      pub array_other : (k : Kind) (a : ℕ) (t₁ : List ℕ) (c : ℕ) (t₂ : List ℕ) (e : ℕ) (t₃ w₃ : List ℕ) (r : ℕ) (t₄ : List ℕ) → k ≡ kind_at b s w id (n - 1) → (k ≡ Array → ⊥)
+      pub array_halts : (d : Refusal) (t₁ : List ℕ) (r : Placed) → put_out (Err d) t₁ ≡ put_text txt at (whole (gap fname p)) → IsErrAnd r (λ e. e ≡ d)
+          → out_of r t₁ w ≡ put_said txt at (array_below (Q b s (T b s w)) (N b s) (T b s w) below fname lvl p (chain_at b s w id n) w)
+      array_halts d t₁ r o i = said_as txt at _ _ w r t₁ w (sym array_is_some) (also txt at _ _ w (Err d) t₁ r t₁ w o (said_ended t₁ r d _ w i))
+
+      pub array_other : (k : Kind) (a : Placed) (t₁ : List ℕ) (c : Placed) (t₂ : List ℕ) (e : Placed) (t₃ w₃ : List ℕ) (r : Placed) (t₄ : List ℕ) → k ≡ kind_at b s w id (n - 1) → (k ≡ Array → ⊥)
           → put_out a t₁ ≡ put_text txt at (whole (gap fname p)) → put_out c t₂ ≡ put_text t₁ a (whole (ascii "("))
           → out_of e t₃ w₃ ≡ put_said t₂ c (inside w) → put_out r t₄ ≡ put_text t₃ e (whole (ascii ")"))
           → out_of r t₄ w₃ ≡ put_said txt at (array_below (Q b s (T b s w)) (N b s) (T b s w) below fname lvl p (chain_at b s w id n) w)
@@ -339,7 +363,7 @@ module _ (b : TypeTable) (s : List ℕ) where
       unfolding emit_proto
       proto_is_some = rw (chain_top b s w id n h)
 
-      pub proto_some : (a : ℕ) (t₁ : List ℕ) (c : ℕ) (t₂ w₂ : List ℕ) (r : ℕ) (t₃ : List ℕ)
+      pub proto_some : (a : Placed) (t₁ : List ℕ) (c : Placed) (t₂ w₂ : List ℕ) (r : Placed) (t₃ : List ℕ)
           → put_out a t₁ ≡ put_text txt at (whole (ascii " (")) → out_of c t₂ w₂ ≡ put_said t₁ a (inside w) → put_out r t₃ ≡ put_text t₂ c (whole (ascii ")"))
           → out_of r t₃ w₂ ≡ put_said txt at (proto_below (Q b s (T b s w)) (N b s) (T b s w) below fname lvl p (chain_at b s w id n) w)
       proto_some a t₁ c t₂ w₂ r t₃ o₁ o₂ o₃ =

@@ -3,7 +3,8 @@ use Prim.Native.Nat.{ℕ}
 use mathlib.Core.Path.{◌≡◌, ap, ◌∙◌, sym}
 use mathlib.Core.Bool.{Bool}
 use mathlib.Core.List.{List, [], ◌∷◌}
-use Rattle.spec_bytes.specs.text.Text.{whole, put_out, put_text}
+use Rattle.spec_bytes.specs.text.Text.{whole}
+use Rattle.spec_bytes.specs.text.Placed.{put_out, put_text, Placed}
 use Rattle.spec_c_dumper.specs.rules.Writer.{Ask, got, no, Writer, put, given}
 use Rattle.spec_c_dumper.specs.rules.Types.{Name, Member, Param, BtfType, Btf as Rules}
 use Rattle.spec_c_dumper.specs.rules.Names.{Naming}
@@ -23,11 +24,11 @@ use Rattle.c_dumper_bodies.specs.bodies.Pieces.{array_below, proto_below, param_
 use Rattle.c_dumper_declarator.proofs.declarations.Kept.{seen, keeps_type, keeps_value, keeps_padding, keeps_body}
 
 -- the same writer, said in another way
-pub said_as : {U : Type 0} → (t : List ℕ) (at : ℕ) (v w : Writer U) (u : U) (r : ℕ) (t' : List ℕ) (u' : U) → v ≡ w → out_of r t' u' ≡ put_said t at (v u) → out_of r t' u' ≡ put_said t at (w u)
+pub said_as : {U : Type 0} → (t : List ℕ) (at : Placed) (v w : Writer U) (u : U) (r : Placed) (t' : List ℕ) (u' : U) → v ≡ w → out_of r t' u' ≡ put_said t at (v u) → out_of r t' u' ≡ put_said t at (w u)
 said_as t at v w u r t' u' e o = o ∙ ap (λ x. put_said t at (x u)) e
 
 -- a name, after a star or not
-pub put_emit_name : {U : Type 0} → (t : List ℕ) (at : ℕ) (fname : Name) (p : Bool) (u : U) (r : ℕ) (t' : List ℕ) → put_out r t' ≡ put_text t at (whole (name_after fname p)) → out_of r t' u ≡ put_said t at (emit_name fname p u)
+pub put_emit_name : {U : Type 0} → (t : List ℕ) (at : Placed) (fname : Name) (p : Bool) (u : U) (r : Placed) (t' : List ℕ) → put_out r t' ≡ put_text t at (whole (name_after fname p)) → out_of r t' u ≡ put_said t at (emit_name fname p u)
 put_emit_name t at fname p u r t' e = put_only t at (name_after fname p) u r t' e ∙ ap (put_said t at) (sym (emit_name_is fname p u))
 
 module _ (b : TypeTable) (s : List ℕ) where

@@ -1,12 +1,13 @@
 -- What each return of the functions for parameters, members, composites and typedefs comes to. Assumes nothing.
 use Prim.Native.Nat.{ℕ, suc, ◌+◌, ◌-◌, ◌<◌, ◌≤◌}
-use mathlib.Core.Path.{◌≡◌, ap, ap₂, ◌∙◌, sym}
+use mathlib.Core.Path.{◌≡◌, ap, ap₂, ◌∙◌, sym, subst}
 use mathlib.Core.Bool.{Bool, true, false, ◌&&◌}
 use mathlib.Core.List.{List, [], ◌∷◌}
 use native.Mathlib.Omega.{arith}
 use lib.Dec.{eqb, leb}
 use borrow.Author.Tests.{ne_eqb, le-leb, lt-leb}
-use Rattle.spec_bytes.specs.text.Text.{ascii, pfx, whole, cut, put_out, put_text}
+use Rattle.spec_bytes.specs.text.Text.{ascii, pfx, whole, cut}
+use Rattle.spec_bytes.specs.text.Placed.{put_out, put_text, Placed}
 use Rattle.spec_c_dumper.specs.rules.Writer.{Said, Writer, put, stop, nothing, ◌⨾◌, said_names}
 use Rattle.spec_c_dumper.specs.rules.Types.{Name, Member, Param, Btf as Rules, Typedef}
 use Rattle.spec_c_dumper.specs.rules.Names.{tag_space, ident_space, resolve_type_name, builtin}
@@ -22,15 +23,18 @@ use Rattle.btf_layout.proofs.asked.Given.{given_found, given_refused}
 use Rattle.c_dumper_padding.specs.placing.Steps.{body_in}
 use Rattle.c_dumper_padding.specs.padding.Asking.{pad_said}
 use Rattle.spec_c_dumper.specs.rules.Place.{out_of, put_said}
-use Rattle.spec_c_dumper.proofs.rules.Writing.{put_only, stop_only, put_nothing, put_then_kept}
+use Rattle.spec_c_dumper.proofs.rules.Writing.{put_only, put_nothing, put_then_kept, said_ended}
 use Rattle.spec_c_dumper.proofs.rules.Keeps.{keeps_put, keeps_then, keeps_composite_head}
 use Rattle.spec_type_table.specs.declared.types.TypeTable.{TypeTable}
 use Rattle.spec_type_table.specs.declared.types.BtfType.{BtfType as Record}
 use Rattle.spec_type_table.specs.Names.{str_at}
 use Rattle.spec_type_table.specs.Records.{section_word, param_at, member_of}
 use Rattle.spec_type_table.specs.Table.{from, param_of, rule_member, btf_of}
-use Rattle.std.specs.Prelude.{Result, Ok, Err}
+use Rattle.std.specs.Prelude.{Result, Ok, Err, IsErrAnd, IfOk}
+use Rattle.spec_bytes.proofs.text.TextLaws.{put_past, put_ended, put_cut}
 use Rattle.spec_bytes.specs.declared.refusal.Refusal.{Refusal}
+use Rattle.spec_bytes.specs.declared.refusal.Refusal.TheVariants.{TooDeep}
+use Rattle.c_dumper_declarator.proofs.declarations.DeclLaws.{too_deep}
 use Rattle.spec_bytes.specs.Refusals.{refusal_number}
 use Rattle.spec_type_table.specs.Cells.{get_field}
 use Rattle.c_dumper_name_versions.proofs.names.Resolve.{put_type_name, resolved_type}
@@ -38,7 +42,7 @@ use Rattle.c_dumper_bodies.specs.bodies.Pieces.{comma, params_below, param_text,
 use Rattle.c_dumper_declarator.proofs.declarations.Sequences.{then_assoc, nothing_then}
 use Rattle.c_dumper_declarator.proofs.declarations.Turns.{params_turn, members_turn, def_none, def_some}
 use Rattle.c_dumper_bodies.proofs.bodies.BodyLaws.{also}
-use Rattle.c_dumper_declarator.proofs.declarations.Kept.{Seen, seen, keeps_type, keeps_value, keeps_padding, keeps_body, body_seen, then_on, Leads, leads_end, leads_turn}
+use Rattle.c_dumper_declarator.proofs.declarations.Kept.{Seen, seen, keeps_type, keeps_value, keeps_padding, keeps_body, body_seen, then_on, Leads, leads_end, leads_turn, leads_halt}
 use Rattle.c_dumper_declarator.proofs.declarations.Keeping.{said_as, N, Q, T, KeptBy, kept_decl, kept_word, kept_param, kept_pads, kept_member}
 use mathlib.Core.Logic.{⊎_elim}
 use Rattle.spec_type_table.specs.declared.types.BtfMember.{BtfMember}
@@ -68,8 +72,8 @@ no_more f k n h =
 
 module _ (b : TypeTable) (s : List ℕ) where
   -- ---- emit_param
-  module _ (below lvl vlen pat k : ℕ) (txt : List ℕ) (at : ℕ) (w : List ℕ) (x : ℕ) (p : ℕ) (ep : p ≡ param_at pat k) (ex : x ≡ section_word b s (p + 4)) (q : Bool) (eq : q ≡ (leb vlen (k + 1) && eqb x 0))
-      (a : ℕ) (t₁ : List ℕ) (o₁ : put_out a t₁ ≡ put_text txt at (whole (comma (eqb k 0)))) where
+  module _ (below lvl vlen pat k : ℕ) (txt : List ℕ) (at : Placed) (w : List ℕ) (x : ℕ) (p : ℕ) (ep : p ≡ param_at pat k) (ex : x ≡ section_word b s (p + 4)) (q : Bool) (eq : q ≡ (leb vlen (k + 1) && eqb x 0))
+      (a : Placed) (t₁ : List ℕ) (o₁ : put_out a t₁ ≡ put_text txt at (whole (comma (eqb k 0)))) where
     abbrev declare : ℕ → Name → Writer (List ℕ)
     declare id name = emit_type_decl_once (Q b s (T b s w)) (N b s) (T b s w) below id name lvl
 
@@ -80,7 +84,7 @@ module _ (b : TypeTable) (s : List ℕ) where
     test_is : (leb vlen (k + 1) && eqb (param_of b s pat k).type_id 0) ≡ q
     test_is = sym (eq ∙ ap (λ (j : ℕ). leb vlen (k + 1) && eqb j 0) type_is)
 
-    pub param_any : (r : ℕ) (t₂ : List ℕ) → q ≡ true → put_out r t₂ ≡ put_text t₁ a (whole (ascii "..."))
+    pub param_any : (r : Placed) (t₂ : List ℕ) → q ≡ true → put_out r t₂ ≡ put_text t₁ a (whole (ascii "..."))
         → out_of r t₂ w ≡ put_said txt at (param_text declare (eqb k 0) (param_of b s pat k) (leb vlen (k + 1)) w)
     unfolding param_text emit_param
     param_any r t₂ h o₂ =
@@ -92,7 +96,7 @@ module _ (b : TypeTable) (s : List ℕ) where
     unfolding param_of
     name_is off nm eo en = bare_text b s nm off en ∙ ap (str_at b s) (eo ∙ ap (section_word b s) ep)
 
-    pub param_decl : (off : ℕ) (nm : Printing) (r : ℕ) (t₂ w₂ : List ℕ) → q ≡ false → off ≡ section_word b s p → nm ≡ record { off = off; version = 0 }
+    pub param_decl : (off : ℕ) (nm : Printing) (r : Placed) (t₂ w₂ : List ℕ) → q ≡ false → off ≡ section_word b s p → nm ≡ record { off = off; version = 0 }
         → out_of r t₂ w₂ ≡ put_said t₁ a (declare x (name_text b s nm) w)
         → out_of r t₂ w₂ ≡ put_said txt at (param_text declare (eqb k 0) (param_of b s pat k) (leb vlen (k + 1)) w)
     unfolding param_text emit_param
@@ -102,6 +106,12 @@ module _ (b : TypeTable) (s : List ℕ) where
         (ap₂ declare type_is (name_is off nm eo en)
         ∙ sym (ap (λ (z : Bool). elim z as (λ _. Writer (List ℕ)) [ true ↦ put (ascii "...") | false ↦ declare (param_of b s pat k).type_id (param_of b s pat k).name ]) (test_is ∙ h)))
         o₂)
+
+  pub param_halts : (below lvl vlen pat k : ℕ) (txt : List ℕ) (at : Placed) (w : List ℕ) (d : Refusal) (t₁ : List ℕ) (r : Placed)
+      → put_out (Err d) t₁ ≡ put_text txt at (whole (comma (eqb k 0))) → IsErrAnd r (λ e. e ≡ d)
+      → out_of r t₁ w ≡ put_said txt at (param_text (λ id name. emit_type_decl_once (Q b s (T b s w)) (N b s) (T b s w) below id name lvl) (eqb k 0) (param_of b s pat k) (leb vlen (k + 1)) w)
+  unfolding param_text
+  param_halts below lvl vlen pat k txt at w d t₁ r o i = also txt at _ _ w (Err d) t₁ r t₁ w o (said_ended t₁ r d _ w i)
 
   -- ---- emit_params: what is left from the k-th on
   module _ (below lvl : ℕ) (f : ℕ → Param) (vlen : ℕ) where
@@ -124,7 +134,7 @@ module _ (b : TypeTable) (s : List ℕ) where
         ∙ ap₂ (λ (z y : Bool). param_text (λ id name. emit_type_decl_once (Q b s B) (N b s) B below id name lvl) (eqb k 0) (f k) z ⨾ emit_params (λ id name. emit_type_decl_once (Q b s B) (N b s) B below id name lvl) y (from f (k + 1) (vlen - (k + 1)))) (no_more f k vlen h) (sym (more_first k)))
         ∙ then_assoc _ _ _
 
-    pub params_again : (t₀ : List ℕ) (at₀ : ℕ) (s₀ : Said (List ℕ)) (t : List ℕ) (p k : ℕ) (w : List ℕ) (r : ℕ) (t' w' : List ℕ) → k < vlen
+    pub params_again : (t₀ : List ℕ) (at₀ : Placed) (s₀ : Said (List ℕ)) (t : List ℕ) (p : Placed) (k : ℕ) (w : List ℕ) (r : Placed) (t' w' : List ℕ) → k < vlen
         → Leads b s t₀ at₀ s₀ t p (params_left k w)
         → out_of r t' w' ≡ put_said t p (param_text (λ id name. emit_type_decl_once (Q b s (T b s w)) (N b s) (T b s w) below id name lvl) (eqb k 0) (f k) (leb vlen (k + 1)) w)
         → Leads b s t₀ at₀ s₀ t' r (params_left (k + 1) w')
@@ -133,19 +143,27 @@ module _ (b : TypeTable) (s : List ℕ) where
         leads_turn b s (λ x. params_over (k + 1) x.0) t₀ at₀ s₀ t p _ _ w r t' w' l (ap (λ (v : Writer (List ℕ)). v w) (params_is k (T b s w) h))
         (kept_param b s (T b s w) below lvl (eqb k 0) (f k) (leb vlen (k + 1))) o
 
+    pub params_halt : (t₀ : List ℕ) (at₀ : Placed) (s₀ : Said (List ℕ)) (t : List ℕ) (p : Placed) (k : ℕ) (w : List ℕ) (d : Refusal) (t' w' : List ℕ) (r : Placed) → k < vlen
+        → Leads b s t₀ at₀ s₀ t p (params_left k w)
+        → out_of (Err d) t' w' ≡ put_said t p (param_text (λ id name. emit_type_decl_once (Q b s (T b s w)) (N b s) (T b s w) below id name lvl) (eqb k 0) (f k) (leb vlen (k + 1)) w)
+        → IsErrAnd r (λ e. e ≡ d) → out_of r t' w' ≡ put_said t₀ at₀ s₀
+    unfolding params_left
+    params_halt t₀ at₀ s₀ t p k w d t' w' r h l o i =
+        leads_halt b s t₀ at₀ s₀ t p _ _ _ w d t' w' r l (ap (λ (v : Writer (List ℕ)). v w) (params_is k (T b s w) h)) o i
+
     params_none : (k : ℕ) (B : Rules) → vlen ≤ k → params_over k B ≡ put (ascii ")")
     unfolding params_over emit_params
     params_none k B h =
         ap (λ (l : List Param). emit_params (λ id name. emit_type_decl_once (Q b s B) (N b s) B below id name lvl) (eqb k 0) l ⨾ put (ascii ")")) (from_none f k vlen h) ∙ nothing_then _
 
     -- the parenthesis, the parameters that were left, the other parenthesis
-    pub params_end : (t₀ : List ℕ) (at₀ : ℕ) (s₀ : Said (List ℕ)) (t : List ℕ) (p k : ℕ) (w : List ℕ) (r : ℕ) (t' : List ℕ) → vlen ≤ k
+    pub params_end : (t₀ : List ℕ) (at₀ : Placed) (s₀ : Said (List ℕ)) (t : List ℕ) (p : Placed) (k : ℕ) (w : List ℕ) (r : Placed) (t' : List ℕ) → vlen ≤ k
         → Leads b s t₀ at₀ s₀ t p (params_left k w) → put_out r t' ≡ put_text t p (whole (ascii ")")) → out_of r t' w ≡ put_said t₀ at₀ s₀
     unfolding params_left
     params_end t₀ at₀ s₀ t p k w r t' h l o =
         leads_end b s t₀ at₀ s₀ t p _ r t' w l (said_as t p (put (ascii ")")) _ w r t' w (sym (params_none k (T b s w) h)) (put_only t p _ w r t' o))
 
-    pub params_whole : (txt : List ℕ) (at : ℕ) (w : List ℕ) (p : ℕ) (t₁ : List ℕ) (r : ℕ) (t' w' : List ℕ) (ps : List Param) → from f 0 vlen ≡ shown_params ps
+    pub params_whole : (txt : List ℕ) (at : Placed) (w : List ℕ) (p : Placed) (t₁ : List ℕ) (r : Placed) (t' w' : List ℕ) (ps : List Param) → from f 0 vlen ≡ shown_params ps
         → put_out p t₁ ≡ put_text txt at (whole (ascii "(")) → out_of r t' w' ≡ put_said t₁ p (params_left 0 w)
         → out_of r t' w' ≡ put_said txt at (params_below (Q b s (T b s w)) (N b s) (T b s w) below lvl (shown_params ps) w)
     unfolding params_left params_over
@@ -154,64 +172,77 @@ module _ (b : TypeTable) (s : List ℕ) where
         also txt at _ _ w p t₁ r t' w' o₁
         (said_as t₁ p _ _ w r t' w' (ap (λ (l : List Param). emit_params (λ id name. emit_type_decl_once (Q b s (T b s w)) (N b s) (T b s w) below id name lvl) true l ⨾ put (ascii ")")) (ap (from f 0) z ∙ e)) o₂)
 
-  -- ---- emit_member
+  -- ---- emit_member: where the next member starts
+  pub member_ends : (B : Rules) (t : Record) (k : ℕ) (m : BtfMember) (r : Result Spot Refusal) → m ≡ member_of b s t k
+      → IfOk r (λ x. x.offset ≡ end_from (end_of B (rule_member b s m))) → IfOk r (λ x. x.offset ≡ end_from (end_of B (rule_member b s (member_of b s t k))))
+  member_ends B t k m r em o = subst (λ y. IfOk r (λ x. x.offset ≡ end_from (end_of B (rule_member b s y)))) em o
+
+  -- what it writes
   module _ (below id lvl : ℕ) (packed : Bool) (k : ℕ) (txt : List ℕ) (spot : Spot) (w : List ℕ) where
-    member_of_lem : (m : BtfMember) (nm : Printing) (a : ℕ) (t₁ w₁ : List ℕ) (c : ℕ) (t₂ : List ℕ) (e : ℕ) (t₃ : List ℕ) (f : ℕ) (t₄ w₄ : List ℕ) (r : Spot) (t₅ : List ℕ)
+    member_of_lem : (m : BtfMember) (nm : Printing) (a : Placed) (t₁ w₁ : List ℕ) (c : Placed) (t₂ : List ℕ) (e : Placed) (t₃ : List ℕ) (f : Placed) (t₄ w₄ : List ℕ) (r : Placed) (t₅ : List ℕ)
         → nm ≡ record { off = m.name_off; version = 0 }
-        → out_of a t₁ w₁ ≡ put_said txt spot.at (pad_said b.types (T b s w) spot.offset (rule_member b s m) packed lvl w)
+        → out_of a t₁ w₁ ≡ put_said txt (Ok spot.at) (pad_said b.types (T b s w) spot.offset (rule_member b s m) packed lvl w)
         → put_out c t₂ ≡ put_text t₁ a (whole (ascii "\n")) → put_out e t₃ ≡ put_text t₂ c (whole (pfx lvl))
         → out_of f t₄ w₄ ≡ put_said t₃ e (emit_type_decl_once (Q b s (T b s w₁)) (N b s) (T b s w₁) below m.type_id (name_text b s nm) lvl w₁)
-        → (out_of r.at t₅ w₄ ≡ put_said t₄ f (member_tail (T b s w₄) id k (rule_member b s m) w₄)) × (r.offset ≡ end_from (end_of (T b s w₄) (rule_member b s m)))
-        → (out_of r.at t₅ w₄ ≡ put_said txt spot.at (member_text (Q b s (T b s w)) (N b s) (T b s w) below id lvl packed k spot.offset (rule_member b s m) w)) × (r.offset ≡ end_from (end_of (T b s w₄) (rule_member b s m)))
+        → out_of r t₅ w₄ ≡ put_said t₄ f (member_tail (T b s w₄) id k (rule_member b s m) w₄)
+        → out_of r t₅ w₄ ≡ put_said txt (Ok spot.at) (member_text (Q b s (T b s w)) (N b s) (T b s w) below id lvl packed k spot.offset (rule_member b s m) w)
     unfolding member_text pad_said seen
-    member_of_lem m nm a t₁ w₁ c t₂ e t₃ f t₄ w₄ r t₅ en o₁ o₂ o₃ o₄ o₅ = (
-      then_on b s (λ x. put (ascii "\n") ⨾ put (pfx lvl) ⨾ emit_type_decl_once (Q b s x.0) (N b s) x.0 below m.type_id (str_at b s m.name_off) lvl ⨾ member_tail x.0 id k (rule_member b s m)) txt spot.at _ w a t₁ w₁ r.at t₅ w₄
-          (kept_pads b s (T b s w) lvl packed spot.offset (rule_member b s m)) o₁
-          (also t₁ a _ _ w₁ c t₂ r.at t₅ w₄ o₂
-          (also t₂ c _ _ w₁ e t₃ r.at t₅ w₄ o₃
-          (then_on b s (λ x. member_tail x.0 id k (rule_member b s m)) t₃ e _ w₁ f t₄ w₄ r.at t₅ w₄
-          (kept_decl b s (T b s w₁) below m.type_id (str_at b s m.name_off) lvl)
-          (said_as t₃ e _ _ w₁ f t₄ w₄ (ap (λ (n : Name). emit_type_decl_once (Q b s (T b s w₁)) (N b s) (T b s w₁) below m.type_id n lvl) (bare_text b s nm m.name_off en)) o₄)
-          o₅.0))),
-      o₅.1,
-    )
+    member_of_lem m nm a t₁ w₁ c t₂ e t₃ f t₄ w₄ r t₅ en o₁ o₂ o₃ o₄ o₅ =
+        then_on b s (λ x. put (ascii "\n") ⨾ put (pfx lvl) ⨾ emit_type_decl_once (Q b s x.0) (N b s) x.0 below m.type_id (str_at b s m.name_off) lvl ⨾ member_tail x.0 id k (rule_member b s m)) txt (Ok spot.at) _ w a t₁ w₁ r t₅ w₄
+        (kept_pads b s (T b s w) lvl packed spot.offset (rule_member b s m)) o₁
+        (also t₁ a _ _ w₁ c t₂ r t₅ w₄ o₂
+        (also t₂ c _ _ w₁ e t₃ r t₅ w₄ o₃
+        (then_on b s (λ x. member_tail x.0 id k (rule_member b s m)) t₃ e _ w₁ f t₄ w₄ r t₅ w₄
+        (kept_decl b s (T b s w₁) below m.type_id (str_at b s m.name_off) lvl)
+        (said_as t₃ e _ _ w₁ f t₄ w₄ (ap (λ (n : Name). emit_type_decl_once (Q b s (T b s w₁)) (N b s) (T b s w₁) below m.type_id n lvl) (bare_text b s nm m.name_off en)) o₄)
+        o₅)))
 
-    pub member_put : (t : Record) (m : BtfMember) (nm : Printing) (a : ℕ) (t₁ w₁ : List ℕ) (c : ℕ) (t₂ : List ℕ) (e : ℕ) (t₃ : List ℕ) (f : ℕ) (t₄ w₄ : List ℕ) (r : Spot) (t₅ : List ℕ)
+    pub member_said : (t : Record) (m : BtfMember) (nm : Printing) (a : Placed) (t₁ w₁ : List ℕ) (c : Placed) (t₂ : List ℕ) (e : Placed) (t₃ : List ℕ) (f : Placed) (t₄ w₄ : List ℕ) (r : Placed) (t₅ : List ℕ)
         → m ≡ member_of b s t k
         → nm ≡ record { off = m.name_off; version = 0 }
-        → out_of a t₁ w₁ ≡ put_said txt spot.at (pad_said b.types (T b s w) spot.offset (rule_member b s m) packed lvl w)
+        → out_of a t₁ w₁ ≡ put_said txt (Ok spot.at) (pad_said b.types (T b s w) spot.offset (rule_member b s m) packed lvl w)
         → put_out c t₂ ≡ put_text t₁ a (whole (ascii "\n")) → put_out e t₃ ≡ put_text t₂ c (whole (pfx lvl))
         → out_of f t₄ w₄ ≡ put_said t₃ e (emit_type_decl_once (Q b s (T b s w₁)) (N b s) (T b s w₁) below m.type_id (name_text b s nm) lvl w₁)
-        → (out_of r.at t₅ w₄ ≡ put_said t₄ f (member_tail (T b s w₄) id k (rule_member b s m) w₄)) × (r.offset ≡ end_from (end_of (T b s w₄) (rule_member b s m)))
-        → (out_of r.at t₅ w₄ ≡ put_said txt spot.at (member_text (Q b s (T b s w)) (N b s) (T b s w) below id lvl packed k spot.offset (rule_member b s (member_of b s t k)) w))
-        × (r.offset ≡ end_from (end_of (T b s w₄) (rule_member b s (member_of b s t k))))
-    member_put t m nm a t₁ w₁ c t₂ e t₃ f t₄ w₄ r t₅ em en o₁ o₂ o₃ o₄ o₅ =
-        let p = member_of_lem m nm a t₁ w₁ c t₂ e t₃ f t₄ w₄ r t₅ en o₁ o₂ o₃ o₄ o₅ in (
-          p.0 ∙ ap (λ (y : BtfMember). put_said txt spot.at (member_text (Q b s (T b s w)) (N b s) (T b s w) below id lvl packed k spot.offset (rule_member b s y) w)) em,
-          p.1 ∙ ap (λ (y : BtfMember). end_from (end_of (T b s w₄) (rule_member b s y))) em,
-        )
+        → out_of r t₅ w₄ ≡ put_said t₄ f (member_tail (T b s w₄) id k (rule_member b s m) w₄)
+        → out_of r t₅ w₄ ≡ put_said txt (Ok spot.at) (member_text (Q b s (T b s w)) (N b s) (T b s w) below id lvl packed k spot.offset (rule_member b s (member_of b s t k)) w)
+    member_said t m nm a t₁ w₁ c t₂ e t₃ f t₄ w₄ r t₅ em en o₁ o₂ o₃ o₄ o₅ =
+        member_of_lem m nm a t₁ w₁ c t₂ e t₃ f t₄ w₄ r t₅ en o₁ o₂ o₃ o₄ o₅
+        ∙ ap (λ (y : BtfMember). put_said txt (Ok spot.at) (member_text (Q b s (T b s w)) (N b s) (T b s w) below id lvl packed k spot.offset (rule_member b s y) w)) em
 
   -- ---- emit_members: what is left from the k-th on
   module _ (below id : ℕ) (tail : ℕ → List Pad) (lvl : ℕ) (packed : Bool) (f : ℕ → Member) (vlen : ℕ) where
     pub members_left : ℕ → ℕ → List ℕ → Said (List ℕ)
     members_left k offset w = members_below (Q b s (T b s w)) (N b s) (T b s w) below id tail lvl packed k offset (from f k (vlen - k)) w
 
-    pub members_again : (t₀ : List ℕ) (at₀ : ℕ) (s₀ : Said (List ℕ)) (t : List ℕ) (p offset k : ℕ) (w : List ℕ) (r : Spot) (t' w' : List ℕ) → k < vlen
+    members_is : (k offset : ℕ) (B : Rules) → k < vlen
+        → members_below (Q b s B) (N b s) B below id tail lvl packed k offset (from f k (vlen - k))
+        ≡ member_text (Q b s B) (N b s) B below id lvl packed k offset (f k) ⨾ members_below (Q b s B) (N b s) B below id tail lvl packed (k + 1) (end_from (end_of B (f k))) (from f (k + 1) (vlen - (k + 1)))
+    members_is k offset B h = ap (members_below (Q b s B) (N b s) B below id tail lvl packed k offset) (from_more f k vlen h) ∙ members_turn (Q b s B) (N b s) B below id tail lvl packed k offset (f k) (from f (k + 1) (vlen - (k + 1)))
+
+    pub members_again : (t₀ : List ℕ) (at₀ : Placed) (s₀ : Said (List ℕ)) (t : List ℕ) (p : Placed) (offset k : ℕ) (w : List ℕ) (r : Placed) (o : ℕ) (t' w' : List ℕ) → k < vlen
         → Leads b s t₀ at₀ s₀ t p (members_left k offset w)
-        → (out_of r.at t' w' ≡ put_said t p (member_text (Q b s (T b s w)) (N b s) (T b s w) below id lvl packed k offset (f k) w)) × (r.offset ≡ end_from (end_of (T b s w') (f k)))
-        → Leads b s t₀ at₀ s₀ t' r.at (members_left (k + 1) r.offset w')
+        → (out_of r t' w' ≡ put_said t p (member_text (Q b s (T b s w)) (N b s) (T b s w) below id lvl packed k offset (f k) w)) × (o ≡ end_from (end_of (T b s w') (f k)))
+        → Leads b s t₀ at₀ s₀ t' r (members_left (k + 1) o w')
     unfolding members_left seen
-    members_again t₀ at₀ s₀ t p offset k w r t' w' h l o =
-        rw o.1
-        (leads_turn b s (λ x. members_below (Q b s x.0) (N b s) x.0 below id tail lvl packed (k + 1) (end_from (end_of x.0 (f k))) (from f (k + 1) (vlen - (k + 1)))) t₀ at₀ s₀ t p _ _ w r.at t' w' l
-        (ap (λ (v : Writer (List ℕ)). v w) (ap (members_below (Q b s (T b s w)) (N b s) (T b s w) below id tail lvl packed k offset) (from_more f k vlen h) ∙ members_turn (Q b s (T b s w)) (N b s) (T b s w) below id tail lvl packed k offset (f k) (from f (k + 1) (vlen - (k + 1)))))
-        (kept_member b s (T b s w) below id lvl packed k offset (f k)) o.0)
+    members_again t₀ at₀ s₀ t p offset k w r o t' w' h l q =
+        rw q.1
+        (leads_turn b s (λ x. members_below (Q b s x.0) (N b s) x.0 below id tail lvl packed (k + 1) (end_from (end_of x.0 (f k))) (from f (k + 1) (vlen - (k + 1)))) t₀ at₀ s₀ t p _ _ w r t' w' l
+        (ap (λ (v : Writer (List ℕ)). v w) (members_is k offset (T b s w) h))
+        (kept_member b s (T b s w) below id lvl packed k offset (f k)) q.0)
+
+    pub members_halt : (t₀ : List ℕ) (at₀ : Placed) (s₀ : Said (List ℕ)) (t : List ℕ) (p : Placed) (offset k : ℕ) (w : List ℕ) (d : Refusal) (t' w' : List ℕ) (r : Placed) → k < vlen
+        → Leads b s t₀ at₀ s₀ t p (members_left k offset w)
+        → out_of (Err d) t' w' ≡ put_said t p (member_text (Q b s (T b s w)) (N b s) (T b s w) below id lvl packed k offset (f k) w)
+        → IsErrAnd r (λ e. e ≡ d) → out_of r t' w' ≡ put_said t₀ at₀ s₀
+    unfolding members_left
+    members_halt t₀ at₀ s₀ t p offset k w d t' w' r h l o i =
+        leads_halt b s t₀ at₀ s₀ t p _ _ _ w d t' w' r l (ap (λ (v : Writer (List ℕ)). v w) (members_is k offset (T b s w) h)) o i
 
     members_none : (k offset : ℕ) (B : Rules) → vlen ≤ k → members_below (Q b s B) (N b s) B below id tail lvl packed k offset (from f k (vlen - k)) ≡ put (tail_text lvl k (tail offset))
     unfolding emit_members_once
     members_none k offset B h = ap (members_below (Q b s B) (N b s) B below id tail lvl packed k offset) (from_none f k vlen h)
 
-    pub members_end : (t₀ : List ℕ) (at₀ : ℕ) (s₀ : Said (List ℕ)) (t : List ℕ) (p offset k : ℕ) (w : List ℕ) (r : ℕ) (t' : List ℕ) → k ≡ vlen
+    pub members_end : (t₀ : List ℕ) (at₀ : Placed) (s₀ : Said (List ℕ)) (t : List ℕ) (p : Placed) (offset k : ℕ) (w : List ℕ) (r : Placed) (t' : List ℕ) → k ≡ vlen
         → Leads b s t₀ at₀ s₀ t p (members_left k offset w) → put_out r t' ≡ put_text t p (whole (tail_text lvl vlen (tail offset))) → out_of r t' w ≡ put_said t₀ at₀ s₀
     unfolding members_left
     members_end t₀ at₀ s₀ t p offset k w r t' e l o =
@@ -219,7 +250,7 @@ module _ (b : TypeTable) (s : List ℕ) where
         leads_end b s t₀ at₀ s₀ t p _ r t' w l (said_as t p (put (tail_text lvl vlen (tail offset))) _ w r t' w
         (ap (λ (j : ℕ). put {U = List ℕ} (tail_text lvl j (tail offset))) (sym e) ∙ sym (members_none k offset (T b s w) h)) (put_only t p _ w r t' o))
 
-    pub members_whole : (txt : List ℕ) (at : ℕ) (w : List ℕ) (n r : ℕ) (t' w' : List ℕ) → vlen ≡ n → out_of r t' w' ≡ put_said txt at (members_left 0 0 w)
+    pub members_whole : (txt : List ℕ) (at : Placed) (w : List ℕ) (n : ℕ) (r : Placed) (t' w' : List ℕ) → vlen ≡ n → out_of r t' w' ≡ put_said txt at (members_left 0 0 w)
         → out_of r t' w' ≡ put_said txt at (members_below (Q b s (T b s w)) (N b s) (T b s w) below id tail lvl packed 0 0 (from f 0 n) w)
     unfolding members_left
     members_whole txt at w n r t' w' e o =
@@ -227,12 +258,9 @@ module _ (b : TypeTable) (s : List ℕ) where
         said_as txt at _ _ w r t' w' (ap (λ (j : ℕ). members_below (Q b s (T b s w)) (N b s) (T b s w) below id tail lvl packed 0 0 (from f 0 j)) z) o
 
   -- ---- emit_composite_def
-  module _ (txt : List ℕ) (at : ℕ) (w : List ℕ) (left id : ℕ) (is_struct : Bool) (name : Name) (sz : ℕ) (ms : List Member) (lvl r : ℕ) where
+  module _ (txt : List ℕ) (at : Placed) (w : List ℕ) (left id : ℕ) (is_struct : Bool) (name : Name) (sz : ℕ) (ms : List Member) (lvl : ℕ) (r : Placed) where
     abbrev Defined : List ℕ → List ℕ → Type 0
     Defined t' w' = out_of r t' w' ≡ put_said txt at (emit_composite_def_once (Q b s (T b s w)) (N b s) (T b s w) left id is_struct name sz ms lvl w)
-
-    pub def_zero : left ≡ 0 → put_out r txt ≡ put_text txt at (cut [] 12) → Defined txt w
-    def_zero e o = said_as txt at (stop 12) _ w r txt w (sym (def_none (Q b s (T b s w)) (N b s) (T b s w) left id is_struct name sz ms lvl e)) (stop_only txt at 12 w r txt o)
 
     module _ (h : left ≡ 0 → ⊥) where
       def_as : (v : Writer (List ℕ)) (t' w' : List ℕ) → composite_def_once (Q b s (T b s w)) (N b s) (T b s w) (emit_type_decl_once (Q b s (T b s w)) (N b s) (T b s w) (left - 1)) id is_struct name sz ms lvl ≡ v
@@ -249,7 +277,7 @@ module _ (b : TypeTable) (s : List ℕ) where
       none_of q = rw (q, composite_def_once)
 
       pub def_builtin : r ≡ at → builtin name ≡ true → Defined txt w
-      def_builtin e q = def_as nothing txt w (none_of q) (ap (λ (j : ℕ). out_of j txt w) e ∙ put_nothing txt at w)
+      def_builtin e q = def_as nothing txt w (none_of q) (ap (λ (j : Placed). out_of j txt w) e ∙ put_nothing txt at w)
 
       module _ (q : builtin name ≡ false) (y : Result Bool Refusal) (w₀ : List ℕ) (a : ask_in y w₀ ≡ body_in b.types (T b s w) is_struct id sz ms w) where
         -- what the question comes to, whatever the visits before
@@ -257,9 +285,9 @@ module _ (b : TypeTable) (s : List ℕ) where
         unfolding body_in
         asked = a ∙ sym (steady_body (work_keep b.types (T b s w)) (T b s w) is_struct id sz ms w (get_field w 0 2))
 
-        pub def_refused : (c : Refusal) (n : ℕ) → y ≡ Err c → n ≡ refusal_number c → put_out r txt ≡ put_text txt at (cut [] n) → Defined txt w₀
+        def_stops : (c : Refusal) → y ≡ Err c → put_out r txt ≡ put_text txt at (cut [] (refusal_number c)) → Defined txt w₀
         unfolding ask_in
-        def_refused c n e en o = def_as _ txt w₀ (body_of q) (given_refused txt at ((Q b s (T b s w)).body is_struct id sz ms) _ w w₀ r txt (refusal_number c) (sym (ap (λ (z : Result Bool Refusal). ask_in z w₀) e) ∙ asked) (o ∙ ap (λ (z : ℕ). put_text txt at (cut [] z)) en))
+        def_stops c e o = def_as _ txt w₀ (body_of q) (given_refused txt at ((Q b s (T b s w)).body is_struct id sz ms) _ w w₀ r txt (refusal_number c) (sym (ap (λ (z : Result Bool Refusal). ask_in z w₀) e) ∙ asked) o)
 
         abbrev body_on : Bool → Seen b s → Writer (List ℕ)
         body_on packed x =
@@ -267,7 +295,7 @@ module _ (b : TypeTable) (s : List ℕ) where
             ⨾ members_below (Q b s x.0) (N b s) x.0 (left - 1) id (tail_pads b.placing b.ptr_sz is_struct sz) (deeper lvl) packed 0 0 ms
             ⨾ composite_end (N b s) x.0 no_decl id lvl ms packed
 
-        body_put : (packed : Bool) (deep p : ℕ) (t₁ w₁ : List ℕ) (o : ℕ) (t₂ w₂ t₃ : List ℕ) → deep ≡ deeper lvl
+        body_put : (packed : Bool) (deep : ℕ) (p : Placed) (t₁ w₁ : List ℕ) (o : Placed) (t₂ w₂ t₃ : List ℕ) → deep ≡ deeper lvl
             → out_of p t₁ w₁ ≡ put_said txt at (composite_head (N b s) (T b s w₀) no_decl id is_struct name w₀)
             → out_of o t₂ w₂ ≡ put_said t₁ p (members_below (Q b s (T b s w₁)) (N b s) (T b s w₁) (left - 1) id (tail_pads b.placing b.ptr_sz is_struct sz) deep packed 0 0 ms w₁)
             → out_of r t₃ w₂ ≡ put_said t₂ o (composite_end (N b s) (T b s w₂) no_decl id lvl ms packed w₂)
@@ -282,7 +310,7 @@ module _ (b : TypeTable) (s : List ℕ) where
             (said_as t₁ p _ _ w₁ o t₂ w₂ (ap (λ (j : ℕ). members_below (Q b s (T b s w₁)) (N b s) (T b s w₁) (left - 1) id (tail_pads b.placing b.ptr_sz is_struct sz) j packed 0 0 ms) ed) e₂)
             e₃)
 
-        pub def_body : (packed : Bool) (deep p : ℕ) (t₁ w₁ : List ℕ) (o : ℕ) (t₂ w₂ t₃ : List ℕ) → y ≡ Ok packed → deep ≡ deeper lvl
+        pub def_body : (packed : Bool) (deep : ℕ) (p : Placed) (t₁ w₁ : List ℕ) (o : Placed) (t₂ w₂ t₃ : List ℕ) → y ≡ Ok packed → deep ≡ deeper lvl
             → out_of p t₁ w₁ ≡ put_said txt at (composite_head (N b s) (T b s w₀) no_decl id is_struct name w₀)
             → out_of o t₂ w₂ ≡ put_said t₁ p (members_below (Q b s (T b s w₁)) (N b s) (T b s w₁) (left - 1) id (tail_pads b.placing b.ptr_sz is_struct sz) deep packed 0 0 ms w₁)
             → out_of r t₃ w₂ ≡ put_said t₂ o (composite_end (N b s) (T b s w₂) no_decl id lvl ms packed w₂)
@@ -293,8 +321,17 @@ module _ (b : TypeTable) (s : List ℕ) where
             (given_found txt at ((Q b s (T b s w)).body is_struct id sz ms) _ w w₀ r t₃ packed w₂ (sym (ap (λ (z : Result Bool Refusal). ask_in z w₀) e) ∙ asked)
             (body_put packed deep p t₁ w₁ o t₂ w₂ t₃ ed e₁ e₂ e₃ ∙ ap (λ (x : Seen b s). put_said txt at (body_on packed x w₀)) (body_seen b s is_struct id sz ms w y w₀ a)))
 
+  module _ (txt : List ℕ) (at : ℕ) (w : List ℕ) (left id : ℕ) (is_struct : Bool) (name : Name) (sz : ℕ) (ms : List Member) (lvl : ℕ) where
+    pub def_zero : left ≡ 0 → Defined txt (Ok at) w left id is_struct name sz ms lvl (Err TooDeep) txt w
+    def_zero e = said_as txt (Ok at) (stop 12) _ w (Err TooDeep) txt w (sym (def_none (Q b s (T b s w)) (N b s) (T b s w) left id is_struct name sz ms lvl e)) (too_deep txt at w)
+
+    pub def_refused : (left ≡ 0 → ⊥) → builtin name ≡ false → (y : Result Bool Refusal) (w₀ : List ℕ) → ask_in y w₀ ≡ body_in b.types (T b s w) is_struct id sz ms w → (c : Refusal) (r : Placed) → y ≡ Err c
+        → IsErrAnd r (λ e. e ≡ c) → Defined txt (Ok at) w left id is_struct name sz ms lvl r txt w₀
+    def_refused h q y w₀ a c r e i =
+        def_stops txt (Ok at) w left id is_struct name sz ms lvl r h q y w₀ a c e (put_ended txt r c (whole []) i ∙ sym (put_past txt c (whole [])) ∙ put_cut txt at c)
+
   -- ---- emit_typedef_def
-  module _ (txt : List ℕ) (at : ℕ) (w : List ℕ) (id : ℕ) (name : Name) (t : ℕ) (a : Name) (w₁ : List ℕ) (e : put a w₁ ≡ resolve_type_name (N b s) tag_space id name put w) where
+  module _ (txt : List ℕ) (at : Placed) (w : List ℕ) (id : ℕ) (name : Name) (t : ℕ) (a : Name) (w₁ : List ℕ) (e : put a w₁ ≡ resolve_type_name (N b s) tag_space id name put w) where
     kept_resolve : (n : Name) → KeptBy b s (resolve_type_name (N b s) ident_space id n put)
     unfolding base_word
     kept_resolve n = kept_word b s (T b s w) 0 [] 0 id (Typedef n 0)
@@ -316,7 +353,7 @@ module _ (b : TypeTable) (s : List ℕ) where
     unfolding seen
     table_after = ap (λ (x : Seen b s). x.0) seen_after
 
-    pub typedef_put : (p : ℕ) (t₁ : List ℕ) (c : ℕ) (t₂ w₂ : List ℕ) (r : ℕ) (t₃ : List ℕ)
+    pub typedef_put : (p : Placed) (t₁ : List ℕ) (c : Placed) (t₂ w₂ : List ℕ) (r : Placed) (t₃ : List ℕ)
         → put_out p t₁ ≡ put_text txt at (whole (ascii "typedef "))
         → out_of c t₂ w₂ ≡ put_said t₁ p (emit_type_decl_once (Q b s (T b s w₁)) (N b s) (T b s w₁) 512 t a 0 w₁)
         → put_out r t₃ ≡ put_text t₂ c (whole (decl_tags (T b s w₂) 4294967295 ((T b s w₂).decl_tags id)))

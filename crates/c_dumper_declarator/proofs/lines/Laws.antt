@@ -5,7 +5,8 @@ use mathlib.Core.List.{List}
 use mathlib.Core.Bool.{Bool, true, false}
 use mathlib.Core.Logic.{◌⊎◌, inl, inr}
 use lib.Dec.{eqb}
-use Rattle.spec_bytes.specs.text.Text.{ascii, whole, put_out, put_text}
+use Rattle.spec_bytes.specs.text.Text.{ascii, whole}
+use Rattle.spec_bytes.specs.text.Placed.{put_out, put_text, Placed}
 use Rattle.spec_c_dumper.specs.rules.Types as R
 use Rattle.spec_c_dumper.specs.rules.Types.{BtfType, Btf as Rules}
 use Rattle.spec_c_dumper.specs.rules.Names.{builtin}
@@ -29,16 +30,16 @@ use Rattle.spec_type_table.specs.Kinds.{kind_named}
 use Rattle.spec_type_table.proofs.KindNames.{is}
 use Rattle.spec_type_table.proofs.KindTypes.{type_as, type_is}
 
-module _ (b : TypeTable) (s : List ℕ) (B : Rules) (at : ℕ) (tx w : List ℕ) (id : ℕ) (t : Record) where
+module _ (b : TypeTable) (s : List ℕ) (B : Rules) (at : Placed) (tx w : List ℕ) (id : ℕ) (t : Record) where
   -- a writer, and the line's end after it
-  ended : (v : Writer (List ℕ)) (a : ℕ) (t₁ w₁ : List ℕ) (r : ℕ) (t₂ : List ℕ) → out_of a t₁ w₁ ≡ put_said tx at (v w) → put_out r t₂ ≡ put_text t₁ a (whole (ascii ";\n\n"))
+  ended : (v : Writer (List ℕ)) (a : Placed) (t₁ w₁ : List ℕ) (r : Placed) (t₂ : List ℕ) → out_of a t₁ w₁ ≡ put_said tx at (v w) → put_out r t₂ ≡ put_text t₁ a (whole (ascii ";\n\n"))
       → out_of r t₂ w₁ ≡ put_said tx at ((v ⨾ put (ascii ";\n\n")) w)
   ended v a t₁ w₁ r t₂ e f = put_then tx at v (put (ascii ";\n\n")) w a t₁ w₁ r t₂ w₁ e (put_only t₁ a (ascii ";\n\n") w₁ r t₂ f)
 
-  abbrev Defines : ℕ → List ℕ → List ℕ → Type 0
+  abbrev Defines : Placed → List ℕ → List ℕ → Type 0
   Defines r t₂ w₂ = out_of r t₂ w₂ ≡ put_said tx at (definition_once (work_asks b.types B) (work_naming b) B id (type_of b s t) w)
 
-  abbrev Forwards : ℕ → List ℕ → List ℕ → Type 0
+  abbrev Forwards : Placed → List ℕ → List ℕ → Type 0
   Forwards r t₂ w₂ = out_of r t₂ w₂ ≡ put_said tx at (forward_once (work_asks b.types B) (work_naming b) B id (type_of b s t) w)
 
   abbrev select : Bool → Writer (List ℕ) → Writer (List ℕ)
@@ -129,17 +130,17 @@ module _ (b : TypeTable) (s : List ℕ) (B : Rules) (at : ℕ) (tx w : List ℕ)
     composite_is (inl p) P f = subst P (sym (ap (λ (j : ℕ). eqb j 4) (is (kind_of t.info) k ek Struct p))) (f true (type_is b s t k ek Struct p))
     composite_is (inr p) P f = subst P (sym (ap (λ (j : ℕ). eqb j 4) (is (kind_of t.info) k ek Union p))) (f false (type_is b s t k ek Union p))
 
-    pub define_composite : (k ≡ Struct) ⊎ (k ≡ Union) → (a : ℕ) (t₁ w₁ : List ℕ)
+    pub define_composite : (k ≡ Struct) ⊎ (k ≡ Union) → (a : Placed) (t₁ w₁ : List ℕ)
         → out_of a t₁ w₁ ≡ put_said tx at (emit_composite_def_once (work_asks b.types B) (work_naming b) B 512 id (eqb (kind_of t.info) 4) (record_name b s t) t.type_id (members_of b s t) 0 w)
-        → (r : ℕ) (t₂ : List ℕ) → put_out r t₂ ≡ put_text t₁ a (whole (ascii ";\n\n")) → Defines r t₂ w₁
+        → (r : Placed) (t₂ : List ℕ) → put_out r t₂ ≡ put_text t₁ a (whole (ascii ";\n\n")) → Defines r t₂ w₁
     unfolding definition_once
     define_composite g a t₁ w₁ e r t₂ f =
         composite_is g (λ y. out_of a t₁ w₁ ≡ put_said tx at (emit_composite_def_once (work_asks b.types B) (work_naming b) B 512 id y (record_name b s t) t.type_id (members_of b s t) 0 w) → Defines r t₂ w₁)
         (λ y u q. ended (emit_composite_def_once (work_asks b.types B) (work_naming b) B 512 id y (record_name b s t) t.type_id (members_of b s t) 0) a t₁ w₁ r t₂ q f ∙ ap (λ (x : BtfType). put_said tx at (definition_once (work_asks b.types B) (work_naming b) B id x w)) (sym u))
         e
 
-    pub define_enum : (k ≡ Enum) ⊎ (k ≡ Enum64) → (a : ℕ) (t₁ w₁ : List ℕ) → out_of a t₁ w₁ ≡ put_said tx at (emit_enum_def (work_naming b) B (value_text (is_wide t) (flag_of t.info)) id (str_at b s t.name_off) (enum_values b s t) 0 w)
-        → (r : ℕ) (t₂ : List ℕ) → put_out r t₂ ≡ put_text t₁ a (whole (ascii ";\n\n")) → Defines r t₂ w₁
+    pub define_enum : (k ≡ Enum) ⊎ (k ≡ Enum64) → (a : Placed) (t₁ w₁ : List ℕ) → out_of a t₁ w₁ ≡ put_said tx at (emit_enum_def (work_naming b) B (value_text (is_wide t) (flag_of t.info)) id (str_at b s t.name_off) (enum_values b s t) 0 w)
+        → (r : Placed) (t₂ : List ℕ) → put_out r t₂ ≡ put_text t₁ a (whole (ascii ";\n\n")) → Defines r t₂ w₁
     unfolding definition_once
     define_enum (inl q) a t₁ w₁ e r t₂ f =
         ended (emit_enum_def (work_naming b) B (enum_value (flag_of t.info)) id (str_at b s t.name_off) (values_of b s t) 0) a t₁ w₁ r t₂
@@ -150,8 +151,8 @@ module _ (b : TypeTable) (s : List ℕ) (B : Rules) (at : ℕ) (tx w : List ℕ)
         (e ∙ of_enum64 b s t (λ str vs. put_said tx at (emit_enum_def (work_naming b) B str id (str_at b s t.name_off) vs 0 w)) (is (kind_of t.info) k ek Enum64 q)) f
         ∙ defined_as Enum64 q
 
-    pub define_fwd : k ≡ Fwd → (u : Bool) → u ≡ flag_of t.info → (a : ℕ) (t₁ w₁ : List ℕ) → out_of a t₁ w₁ ≡ put_said tx at (emit_fwd_def (work_naming b) B id u (str_at b s t.name_off) w)
-        → (r : ℕ) (t₂ : List ℕ) → put_out r t₂ ≡ put_text t₁ a (whole (ascii ";\n\n")) → Defines r t₂ w₁
+    pub define_fwd : k ≡ Fwd → (u : Bool) → u ≡ flag_of t.info → (a : Placed) (t₁ w₁ : List ℕ) → out_of a t₁ w₁ ≡ put_said tx at (emit_fwd_def (work_naming b) B id u (str_at b s t.name_off) w)
+        → (r : Placed) (t₂ : List ℕ) → put_out r t₂ ≡ put_text t₁ a (whole (ascii ";\n\n")) → Defines r t₂ w₁
     unfolding definition_once
     define_fwd q u eu a t₁ w₁ e r t₂ f =
         ended (emit_fwd_def (work_naming b) B id u (str_at b s t.name_off)) a t₁ w₁ r t₂ e f
@@ -164,9 +165,9 @@ module _ (b : TypeTable) (s : List ℕ) (B : Rules) (at : ℕ) (tx w : List ℕ)
     pub forward_builtin : (y : Bool) → y ≡ builtin (str_at b s t.name_off) → y ≡ true → Forwards at tx w
     forward_builtin y ey e = put_nothing tx at w ∙ builtin_none (kind_named (kind_of t.info)) (sym ey ∙ e) ∙ forward_as _ ek
 
-    pub forward_composite : (y : Bool) → y ≡ builtin (str_at b s t.name_off) → y ≡ false → (k ≡ Struct) ⊎ (k ≡ Union) → (st : Bool) → st ≡ eqb (kind_of t.info) 4 → (a : ℕ) (t₁ w₁ : List ℕ)
+    pub forward_composite : (y : Bool) → y ≡ builtin (str_at b s t.name_off) → y ≡ false → (k ≡ Struct) ⊎ (k ≡ Union) → (st : Bool) → st ≡ eqb (kind_of t.info) 4 → (a : Placed) (t₁ w₁ : List ℕ)
         → out_of a t₁ w₁ ≡ put_said tx at (emit_composite_fwd (work_naming b) B id st (str_at b s t.name_off) w)
-        → (r : ℕ) (t₂ : List ℕ) → put_out r t₂ ≡ put_text t₁ a (whole (ascii ";\n\n")) → Forwards r t₂ w₁
+        → (r : Placed) (t₂ : List ℕ) → put_out r t₂ ≡ put_text t₁ a (whole (ascii ";\n\n")) → Forwards r t₂ w₁
     unfolding forward_once shown
     forward_composite y ey ef g st es a t₁ w₁ e r t₂ f =
         composite_is g (λ z. st ≡ z → Forwards r t₂ w₁)
@@ -176,9 +177,9 @@ module _ (b : TypeTable) (s : List ℕ) (B : Rules) (at : ℕ) (tx w : List ℕ)
         ∙ ap (λ (x : BtfType). put_said tx at (forward_once (work_asks b.types B) (work_naming b) B id x w)) (sym u))
         es
 
-    pub forward_typedef : (y : Bool) → y ≡ builtin (str_at b s t.name_off) → y ≡ false → k ≡ Typedef → (a : ℕ) (t₁ w₁ : List ℕ)
+    pub forward_typedef : (y : Bool) → y ≡ builtin (str_at b s t.name_off) → y ≡ false → k ≡ Typedef → (a : Placed) (t₁ w₁ : List ℕ)
         → out_of a t₁ w₁ ≡ put_said tx at (emit_typedef_def_once (work_asks b.types B) (work_naming b) B id (str_at b s t.name_off) t.type_id w)
-        → (r : ℕ) (t₂ : List ℕ) → put_out r t₂ ≡ put_text t₁ a (whole (ascii ";\n\n")) → Forwards r t₂ w₁
+        → (r : Placed) (t₂ : List ℕ) → put_out r t₂ ≡ put_text t₁ a (whole (ascii ";\n\n")) → Forwards r t₂ w₁
     unfolding forward_once shown
     forward_typedef y ey ef q a t₁ w₁ e r t₂ f =
         ended (emit_typedef_def_once (work_asks b.types B) (work_naming b) B id (str_at b s t.name_off) t.type_id) a t₁ w₁ r t₂ e f

@@ -1,5 +1,6 @@
 // The bodies of composites: their members are declarations again.
-ghost use Rattle.std.specs.Prelude.{◌≡◌, eqb};
+ghost use Rattle.std.specs.Prelude.{◌≡◌, eqb, Ok, IfOk};
+ghost use Rattle.spec_bytes.specs.text.Placed.{placed};
 ghost use Rattle.spec_c_dumper.specs.rules.Layout.{end_of};
 ghost use Rattle.spec_c_dumper.specs.rules.Placing.{tail_pads};
 ghost use Rattle.spec_c_dumper.specs.alignment_once.Writers.{emit_composite_def_once};
@@ -9,8 +10,9 @@ ghost use Rattle.spec_type_table.specs.Records.{kind_of, member_of};
 ghost use Rattle.spec_type_table.specs.Table.{members_of, record_name, rule_member, btf_of, work_naming};
 ghost use Rattle.c_dumper_bodies.specs.bodies.Pieces.{member_text, members_below, end_from};
 
-use crate::declarations::{Declarator, emit_type_decl, too_deep};
-use base_bytes::put::{put_byte, put_tabs, stop, stopped};
+use crate::declarations::{Declarator, emit_type_decl};
+use base_bytes::put::{put_byte, put_tabs};
+use base_bytes::refusal::Refusal;
 use btf_type_table::kind::vlen_of;
 use btf_type_table::table::Table;
 use c_dumper_bodies::bodies::{Spot, emit_composite_end, emit_composite_head, emit_member_end};
@@ -30,29 +32,22 @@ pub fn emit_composite_def(
     t: BtfType,
     lvl: u32,
     left: u32,
-) -> usize
+) -> Result<usize, Refusal>
     ensures { out_of result text.new work.new
-        ≡ put_said text.old at (emit_composite_def_once (work_asks b.now.head.types (btf_of b.now.head b.now.section.now work.old))
+        ≡ put_said text.old (Ok at) (emit_composite_def_once (work_asks b.now.head.types (btf_of b.now.head b.now.section.now work.old))
         (work_naming b.now.head) (btf_of b.now.head b.now.section.now work.old) left id (eqb (kind_of t.info) 4)
         (record_name b.now.head b.now.section.now t) t.type_id (members_of b.now.head b.now.section.now t) lvl work.old) }
 {
     if left == 0 {
-        return too_deep(text, at);
-    }
-    if stopped(text, at) {
-        return at;
+        return Err(Refusal::TooDeep);
     }
     if b.is_builtin(t.name_off) {
-        return at;
+        return Ok(at);
     }
-    match body_packed(b, work, id, t) {
-        Ok(packed) => {
-            let a = emit_composite_head(b, work, text, at, id, t);
-            let c = emit_members(b, work, text, a, id, t, packed, deeper(lvl), left - 1);
-            emit_composite_end(b, work, text, c, id, t, packed, lvl)
-        }
-        Err(c) => stop(text, at, u32::from(c)),
-    }
+    let packed = body_packed(b, work, id, t)?;
+    let a = emit_composite_head(b, work, text, at, id, t)?;
+    let c = emit_members(b, work, text, a, id, t, packed, deeper(lvl), left - 1)?;
+    emit_composite_end(b, work, text, c, id, t, packed, lvl)
 }
 
 #[cycle(declarator)]
@@ -66,9 +61,9 @@ fn emit_members(
     packed: bool,
     lvl: u32,
     below: u32,
-) -> usize
+) -> Result<usize, Refusal>
     ensures { out_of result text.new work.new
-        ≡ put_said text.old at (members_below (work_asks b.now.head.types (btf_of b.now.head b.now.section.now work.old))
+        ≡ put_said text.old (Ok at) (members_below (work_asks b.now.head.types (btf_of b.now.head b.now.section.now work.old))
         (work_naming b.now.head) (btf_of b.now.head b.now.section.now work.old) below id
         (tail_pads b.now.head.placing b.now.head.ptr_sz (eqb (kind_of t.info) 4) t.type_id) lvl packed 0 0
         (members_of b.now.head b.now.section.now t) work.old) }
@@ -76,10 +71,7 @@ fn emit_members(
     let vlen = vlen_of(t.info);
     let mut s = Spot { at, offset: 0 };
     for k in 0..vlen {
-        if stopped(text, s.at) {
-            return s.at;
-        }
-        s = emit_member(b, work, text, s, id, t, k, packed, lvl, below);
+        s = emit_member(b, work, text, s, id, t, k, packed, lvl, below)?;
     }
     emit_tail_padding(b.head, text, s.at, t, vlen, s.offset, lvl)
 }
@@ -96,13 +88,13 @@ fn emit_member(
     packed: bool,
     lvl: u32,
     below: u32,
-) -> Spot
-    ensures { (out_of result.at text.new work.new
-        ≡ put_said text.old s.at
+) -> Result<Spot, Refusal>
+    ensures { (out_of (placed (λ s. s.at) result) text.new work.new
+        ≡ put_said text.old (Ok s.at)
         (member_text (work_asks b.now.head.types (btf_of b.now.head b.now.section.now work.old)) (work_naming b.now.head)
         (btf_of b.now.head b.now.section.now work.old) below id lvl packed k s.offset
         (rule_member b.now.head b.now.section.now (member_of b.now.head b.now.section.now t k)) work.old))
-        × (result.offset ≡ end_from (end_of (btf_of b.now.head b.now.section.now work.new)
+        × IfOk result (λ r. r.offset ≡ end_from (end_of (btf_of b.now.head b.now.section.now work.new)
         (rule_member b.now.head b.now.section.now (member_of b.now.head b.now.section.now t k)))) }
 {
     let m = b.load_member(t, k);
@@ -111,9 +103,9 @@ fn emit_member(
         name: bare(m.name_off),
         lvl: lvl,
     };
-    let a = emit_bit_padding(b, work, text, s.at, s.offset, m, packed, lvl);
-    let c = put_byte(text, a, b'\n');
-    let e = put_tabs(text, c, lvl);
-    let f = emit_type_decl(b, work, text, e, d, below);
+    let a = emit_bit_padding(b, work, text, s.at, s.offset, m, packed, lvl)?;
+    let c = put_byte(text, a, b'\n')?;
+    let e = put_tabs(text, c, lvl)?;
+    let f = emit_type_decl(b, work, text, e, d, below)?;
     emit_member_end(b, work, text, f, id, k, m)
 }

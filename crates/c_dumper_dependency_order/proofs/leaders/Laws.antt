@@ -5,7 +5,7 @@ use mathlib.Core.List.{List, [], ◌∷◌}
 use mathlib.Core.Bool.{Bool, true, false}
 use native.Mathlib.Omega.{arith}
 use lib.Dec.{eqb}
-use lib.ListN.{length, get_or, set, get_or-eq_default}
+use lib.ListN.{length, get_or, set}
 use borrow.Author.Tests.{eq-eqb, ne_eqb}
 use Rattle.c_dumper_dependency_order.specs.declared.leaders.Way.{Way}
 use Rattle.c_dumper_dependency_order.specs.leaders.Leads.{led_two, inside_of, word_at, is_noted, note_in, leader_in}
@@ -24,10 +24,6 @@ inside_is v x d e = λ i. record { inner = x; lead = e i; turn = v.turn }
 pub word_in_lem : (l : List ℕ) (i : ℕ) → get_or l i 0 ≡ word_at l i
 unfolding word_at
 word_in_lem l i = refl
-
-pub word_past : (l : List ℕ) (i : ℕ) → length l ≤ i → 0 ≡ word_at l i
-unfolding word_at
-word_past l i h = sym (get_or-eq_default l 0 h)
 
 pub noted_is : (turn : ℕ) (l : List ℕ) (x n : ℕ) → n ≡ word_at l x → eqb (n / 4294967296) turn ≡ is_noted turn l x
 unfolding is_noted
@@ -49,10 +45,6 @@ set_past : (l : List ℕ) (i a : ℕ) → length l ≤ i → set l i a ≡ l
 set_past [] i a h = refl
 set_past (y ∷ l) zero a h = absurd (omega arith)
 set_past (y ∷ l) (suc i) a h = ap (λ (u : List ℕ). y ∷ u) (set_past l i a (omega arith))
-
-pub note_past : (v : Way) (l : List ℕ) (x : ℕ) (b : Bool) → b ≡ is_noted v.turn l x → b ≡ false → length l ≤ x → l ≡ note_in v l x
-unfolding note_in
-note_past v l x b e t h = sym (set_past l x (v.turn * 4294967296 + led_two v x) h) ∙ ap (λ (y : Bool). elim y [ true ↦ l | false ↦ set l x (v.turn * 4294967296 + led_two v x) ]) (sym t ∙ e)
 
 pub note_new : (v : Way) (l : List ℕ) (x : ℕ) (b : Bool) → b ≡ is_noted v.turn l x → b ≡ false → (d : ℕ) → d ≡ led_two v x → set l x (v.turn * 4294967296 + d) ≡ note_in v l x
 unfolding note_in

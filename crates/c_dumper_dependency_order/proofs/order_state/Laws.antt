@@ -4,9 +4,8 @@ use mathlib.Core.Path.{◌≡◌, refl, ap, ◌∙◌, sym}
 use mathlib.Core.List.{List}
 use mathlib.Core.Bool.{Bool, true, false, not}
 use mathlib.Core.Logic.{◌⊎◌, inl, inr}
-use lib.Dec.{eqb}
 use borrow.Author.Tests.{ne_eqb}
-use Rattle.spec_c_dumper.specs.rules.Order.{new, busy, done, is_comp, is_done}
+use Rattle.spec_c_dumper.specs.rules.Order.{new, busy, done, is_comp}
 use Rattle.spec_c_dumper.specs.rules.Types.{BtfType, node_of, is_named}
 use Rattle.spec_type_table.specs.declared.types.TypeTable.{TypeTable}
 use Rattle.spec_type_table.specs.declared.types.BtfType.{BtfType as Record}
@@ -34,15 +33,6 @@ pub is_new : (n : ℕ) → (n ≡ 2 → ⊥) → (n ≡ 1 → ⊥) → mark_of n
 unfolding mark_of
 is_new n p q = rw (ne_eqb n 2 p, mark_of, ne_eqb n 1 q)
 
-pub done_is : (n : ℕ) → is_done (mark_of n) ≡ eqb n 2
-unfolding mark_of
-done_is n = go (eqb n 2) (eqb n 1)
-  where
-    go : (t u : Bool) → is_done (elim t [ true ↦ done | false ↦ elim u [ true ↦ busy | false ↦ new ] ]) ≡ t
-    go true u = refl
-    go false true = refl
-    go false false = refl
-
 pub get_at : (m : Marks) (x : ℕ) → work_store.get m x ≡ mark_of (get_field m.work x 1)
 unfolding work_store
 get_at m x = refl
@@ -52,9 +42,9 @@ pub not_true : (x : Bool) → not x ≡ true → x ≡ false
 not_true true e = sym e
 not_true false e = refl
 
-pub not_false : (x : Bool) → not x ≡ false → x ≡ true
-not_false true e = refl
-not_false false e = sym e
+pub not_not : (x : Bool) → not (not x) ≡ x
+not_not true = refl
+not_not false = refl
 
 -- ---- an id in progress
 module _ (b : TypeTable) (s : List ℕ) (t : Record) where

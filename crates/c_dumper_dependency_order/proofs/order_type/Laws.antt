@@ -1,11 +1,13 @@
 -- What each return of ordering's code comes to, against the rules. Assumes nothing.
-use Prim.Native.Nat.{ℕ, zero, suc, ◌+◌, ◌-◌, ◌<◌, ◌≤◌}
+use Prim.Native.Nat.{ℕ, suc, ◌+◌, ◌-◌, ◌<◌, ◌≤◌}
 use mathlib.Core.Path.{◌≡◌, refl, ap, ◌∙◌, sym, subst}
 use mathlib.Core.List.{List, [], ◌∷◌}
 use mathlib.Core.Bool.{Bool, true, false, not, ◌&&◌, ◌||◌, true≢false}
 use native.Mathlib.Omega.{arith}
-use lib.Dec.{eqb}
-use borrow.Author.Tests.{ne_eqb}
+use Rattle.std.specs.Prelude.{Option, Some, None, is_some}
+use Rattle.spec_bytes.specs.Refusals.{refusal_number}
+use Rattle.spec_bytes.specs.declared.refusal.Refusal.{Refusal}
+use Rattle.spec_bytes.specs.declared.refusal.Refusal.TheVariants.{TooDeep, Cycle, CeilingPassed}
 use Rattle.spec_c_dumper.specs.rules.Order.{Table, Mark, new, busy, done, is_done, push_if, finish}
 use Rattle.spec_c_dumper.specs.rules.Types.{node_of, is_named, table_of}
 use Rattle.spec_c_dumper.specs.ceiling.Ceiling.{Limit, allows, one_call, Told, told, halted, then_bind, each_within, meet_within, enter_within, alias_within, fresh_within, visit_within}
@@ -26,30 +28,30 @@ use Rattle.c_dumper_dependency_order.specs.entries.Entries.{entry_type, entry_id
 use Rattle.c_dumper_dependency_order.specs.declared.order_state.Order.{Order}
 use Rattle.c_dumper_dependency_order.specs.declared.leaders.Way.{Way}
 use Rattle.c_dumper_dependency_order.specs.order_state.Work.{mark_of, code as code_of, work_store, table_in, strong_of, refused_by}
-use Rattle.c_dumper_dependency_order.specs.begin.Start.{limit_by, with_made, opened_by, is_known, is_passable, met_by}
+use Rattle.c_dumper_dependency_order.specs.begin.Start.{limit_of, with_made, opened_by, is_known, is_passable, met_by}
 use Rattle.c_dumper_dependency_order.specs.leaders.Leads.{inside_of, way_for, note_in, MarksAndLeaders, kept_store, order_kept, kept_out, alias_kept, way_kept, fresh_kept, enter_kept}
 use Rattle.c_dumper_dependency_order.proofs.order_state.Frame.{Stays, on, off, stays_bind, table_mark, table_kept}
 use Rattle.c_dumper_dependency_order.proofs.begin.Laws.{Known, known_yes}
-use Rattle.c_dumper_dependency_order.proofs.order_state.Laws.{is_done_lem, done_is, get_at, node_is_lem, named_at}
+use Rattle.c_dumper_dependency_order.proofs.order_state.Laws.{get_at, node_is_lem, named_at}
 
 abbrev pub kept_of : Order → List ℕ → List ℕ → MarksAndLeaders
 kept_of o w l = record { marks = record { work = w; len = o.len }; leads = l }
 
-pub going : (o : Order) (w l : List ℕ) → o.stop ≡ 0 → kept_out o w l ≡ told (kept_of o w l) o.is_strong o.made
+pub going : (o : Order) (w l : List ℕ) → o.stop ≡ None → kept_out o w l ≡ told (kept_of o w l) o.is_strong o.made
 unfolding kept_out
 going o w l e = rw e
 
-pub stops : (o : Order) (w l : List ℕ) → (o.stop ≡ 0 → ⊥) → kept_out o w l ≡ halted o.stop o.made
+pub stops : (o : Order) (w l : List ℕ) (c : Refusal) → o.stop ≡ Some c → kept_out o w l ≡ halted (refusal_number c) o.made
 unfolding kept_out
-stops o w l n = rw (ne_eqb o.stop 0 n, kept_out)
+stops o w l c e = rw e
 
 -- the code's answers, by whether they are stopped
-pub by_stop : (P : Type 0) (o : Order) → ((e : o.stop ≡ 0) → P) → ((o.stop ≡ 0 → ⊥) → P) → P
+pub by_stop : (P : Type 0) (o : Order) → ((e : o.stop ≡ None) → P) → ((c : Refusal) → o.stop ≡ Some c → P) → P
 by_stop P o on_going halting = go o.stop refl
   where
-    go : (n : ℕ) → o.stop ≡ n → P
-    go zero e = on_going e
-    go (suc n) e = halting (λ z. omega arith)
+    go : (s : Option Refusal) → o.stop ≡ s → P
+    go None e = on_going e
+    go (Some c) e = halting c e
 
 -- ---- one after another
 pub bind_then : (x : Told MarksAndLeaders) (k k' : MarksAndLeaders → Bool → ℕ → Told MarksAndLeaders) → then_bind (then_bind x k) k' ≡ then_bind x (λ m b j. then_bind (k m b j) k')
@@ -69,25 +71,25 @@ bind_ok (halted c j) = refl
 pub then : (x : Told MarksAndLeaders) (k k' : MarksAndLeaders → Bool → ℕ → Told MarksAndLeaders) (y z : Told MarksAndLeaders) → y ≡ then_bind x k → z ≡ then_bind y k' → z ≡ then_bind x (λ m b j. then_bind (k m b j) k')
 then x k k' y z e f = f ∙ ap (λ (r : Told MarksAndLeaders). then_bind r k') e ∙ bind_then x k k'
 
-pub run : (o : Order) (w l : List ℕ) (k : MarksAndLeaders → Bool → ℕ → Told MarksAndLeaders) → o.stop ≡ 0 → then_bind (kept_out o w l) k ≡ k (kept_of o w l) o.is_strong o.made
+pub run : (o : Order) (w l : List ℕ) (k : MarksAndLeaders → Bool → ℕ → Told MarksAndLeaders) → o.stop ≡ None → then_bind (kept_out o w l) k ≡ k (kept_of o w l) o.is_strong o.made
 unfolding then_bind
 run o w l k e = ap (λ (r : Told MarksAndLeaders). then_bind r k) (going o w l e)
 
-halt : (o : Order) (w l : List ℕ) (k : MarksAndLeaders → Bool → ℕ → Told MarksAndLeaders) → (o.stop ≡ 0 → ⊥) → then_bind (kept_out o w l) k ≡ halted o.stop o.made
+halt : (o : Order) (w l : List ℕ) (k : MarksAndLeaders → Bool → ℕ → Told MarksAndLeaders) (c : Refusal) → o.stop ≡ Some c → then_bind (kept_out o w l) k ≡ halted (refusal_number c) o.made
 unfolding then_bind
-halt o w l k n = ap (λ (r : Told MarksAndLeaders). then_bind r k) (stops o w l n)
+halt o w l k c e = ap (λ (r : Told MarksAndLeaders). then_bind r k) (stops o w l c e)
 
 -- a stopped answer is given back
-pub stopped : (o : Order) (w l : List ℕ) (k : MarksAndLeaders → Bool → ℕ → Told MarksAndLeaders) → (o.stop ≡ 0 → ⊥) → kept_out o w l ≡ then_bind (kept_out o w l) k
-stopped o w l k n = stops o w l n ∙ sym (halt o w l k n)
+pub stopped : (o : Order) (w l : List ℕ) (k : MarksAndLeaders → Bool → ℕ → Told MarksAndLeaders) → is_some o.stop ≡ true → kept_out o w l ≡ then_bind (kept_out o w l) k
+stopped o w l k s = by_stop (kept_out o w l ≡ then_bind (kept_out o w l) k) o (λ z. absurd (true≢false (sym s ∙ ap is_some z))) (λ c e. stops o w l c e ∙ sym (halt o w l k c e))
 
 pub flagged : (o : Order) (w l : List ℕ) (s : Bool) (r : Order) → r ≡ strong_of o s → kept_out r w l ≡ then_bind (kept_out o w l) (λ m b j. told m s j)
 flagged o w l s r e =
     ap (λ (x : Order). kept_out x w l) e
-    ∙ by_stop (kept_out (strong_of o s) w l ≡ then_bind (kept_out o w l) (λ m b j. told m s j)) o (λ z. going (strong_of o s) w l z ∙ sym (run o w l (λ m b j. told m s j) z)) (λ n. stops (strong_of o s) w l n ∙ sym (halt o w l (λ m b j. told m s j) n))
+    ∙ by_stop (kept_out (strong_of o s) w l ≡ then_bind (kept_out o w l) (λ m b j. told m s j)) o (λ z. going (strong_of o s) w l z ∙ sym (run o w l (λ m b j. told m s j) z)) (λ c n. stops (strong_of o s) w l c n ∙ sym (halt o w l (λ m b j. told m s j) c n))
 
-refuses : (o : Order) (w l : List ℕ) (c : ℕ) (r : Order) (k : MarksAndLeaders → Bool → ℕ → Told MarksAndLeaders) → o.stop ≡ 0 → r ≡ refused_by o (suc c) → k (kept_of o w l) o.is_strong o.made ≡ halted (suc c) o.made → kept_out r w l ≡ then_bind (kept_out o w l) k
-refuses o w l c r k z e f = ap (λ (x : Order). kept_out x w l) e ∙ stops (refused_by o (suc c)) w l (λ q. omega arith) ∙ sym (run o w l k z ∙ f)
+refuses : (o : Order) (w l : List ℕ) (c : Refusal) (r : Order) (k : MarksAndLeaders → Bool → ℕ → Told MarksAndLeaders) → o.stop ≡ None → r ≡ refused_by o c → k (kept_of o w l) o.is_strong o.made ≡ halted (refusal_number c) o.made → kept_out r w l ≡ then_bind (kept_out o w l) k
+refuses o w l c r k z e f = ap (λ (x : Order). kept_out x w l) e ∙ stops (refused_by o c) w l c refl ∙ sym (run o w l k z ∙ f)
 
 -- ---- the store
 pub pushed : (o : Order) (w l : List ℕ) (id : ℕ) (v : Way) (n : ℕ) (w' l' : List ℕ) → l' ≡ note_in v l id → w' ≡ put_field w o.len 11 id → n ≡ one_more o.len
@@ -96,7 +98,7 @@ unfolding kept_store work_store
 pushed o w l id v n w' l' el ew en =
     by_stop _ o
     (λ z. going _ w' l' z ∙ (λ i. told (record { marks = record { work = ew i; len = en i }; leads = el i }) o.is_strong o.made) ∙ sym (run o w l (λ m b j. told ((kept_store v).push id m) b j) z))
-    (λ q. stops _ w' l' q ∙ sym (halt o w l (λ m b j. told ((kept_store v).push id m) b j) q))
+    (λ c q. stops _ w' l' c q ∙ sym (halt o w l (λ m b j. told ((kept_store v).push id m) b j) c q))
 
 -- a mark set, whatever comes after
 set_mark : (o : Order) (w l : List ℕ) (v : Way) (d : Mark) (id : ℕ) (w' : List ℕ) (k : MarksAndLeaders → Bool → ℕ → Told MarksAndLeaders) → w' ≡ put_field w id 1 (code_of d)
@@ -105,7 +107,7 @@ unfolding kept_store work_store
 set_mark o w l v d id w' k ew =
     by_stop _ o
     (λ z. run o w' l k z ∙ ap (λ (u : List ℕ). k (record { marks = record { work = u; len = o.len }; leads = l }) o.is_strong o.made) ew ∙ sym (run o w l (λ m b j. k ((kept_store v).mark d id m) b j) z))
-    (λ q. halt o w' l k q ∙ sym (halt o w l (λ m b j. k ((kept_store v).mark d id m) b j) q))
+    (λ c q. halt o w' l k c q ∙ sym (halt o w l (λ m b j. k ((kept_store v).mark d id m) b j) c q))
 
 done_at : (o : Order) (w l : List ℕ) (v : Way) (id : ℕ) (s : Bool) (w' : List ℕ) (r : Order) → w' ≡ put_field w id 1 2 → r ≡ strong_of o s
     → kept_out r w' l ≡ then_bind (kept_out o w l) (λ m b j. told ((kept_store v).mark done id m) s j)
@@ -127,7 +129,7 @@ finish_bare o w l id v lists s r w₂ t ew er =
     ∙ bind_same (kept_out o w l) _ _ (λ m b j. ap (λ (q : Bool). told (finish (kept_store v) q id m) s j) (sym t))
 
 -- ---- a typedef
-pub alias_off : (o : Order) (w l : List ℕ) (id : ℕ) (weak : Bool) (v : Way) (r : Order) → o.stop ≡ 0 → not weak || o.is_strong ≡ false → r ≡ strong_of o false
+pub alias_off : (o : Order) (w l : List ℕ) (id : ℕ) (weak : Bool) (v : Way) (r : Order) → o.stop ≡ None → not weak || o.is_strong ≡ false → r ≡ strong_of o false
     → kept_out r w l ≡ then_bind (kept_out o w l) (λ m b j. alias_kept v m id weak b j)
 unfolding alias_kept alias_within
 alias_off o w l id weak v r z e er =
@@ -135,30 +137,30 @@ alias_off o w l id weak v r z e er =
     ∙ ap (λ (t : Bool). alias_within (kept_store v) t (is_done (work_store.get (kept_of o w l).marks id)) (kept_of o w l) id o.made) (sym e)
     ∙ sym (run o w l (λ m b j. alias_kept v m id weak b j) z)
 
-pub alias_on : (o : Order) (w l : List ℕ) (id : ℕ) (d : Bool) (weak : Bool) (v : Way) (r : Order) (w' l' : List ℕ) → o.stop ≡ 0 → not weak || o.is_strong ≡ true
-    → d ≡ eqb (get_field w id 1) 2 → kept_out r w' l' ≡ then_bind (kept_out o w l) (λ m b j. told (finish (kept_store v) (not d) id m) true j)
+pub alias_on : (o : Order) (w l : List ℕ) (id : ℕ) (d : Bool) (weak : Bool) (v : Way) (r : Order) (w' l' : List ℕ) → o.stop ≡ None → not weak || o.is_strong ≡ true
+    → d ≡ is_done (mark_of (get_field w id 1)) → kept_out r w' l' ≡ then_bind (kept_out o w l) (λ m b j. told (finish (kept_store v) (not d) id m) true j)
     → kept_out r w' l' ≡ then_bind (kept_out o w l) (λ m b j. alias_kept v m id weak b j)
 unfolding alias_kept alias_within
 alias_on o w l id d weak v r w' l' z e es er =
     er ∙ run o w l (λ m b j. told (finish (kept_store v) (not d) id m) true j) z
-    ∙ ap (λ (t : Bool). told (finish (kept_store v) (not t) id (kept_of o w l)) true o.made) (es ∙ sym (done_is (get_field w id 1)) ∙ ap is_done (sym (get_at (kept_of o w l).marks id)))
+    ∙ ap (λ (t : Bool). told (finish (kept_store v) (not t) id (kept_of o w l)) true o.made) (es ∙ ap is_done (sym (get_at (kept_of o w l).marks id)))
     ∙ ap (λ (t : Bool). alias_within (kept_store v) t (is_done (work_store.get (kept_of o w l).marks id)) (kept_of o w l) id o.made) (sym e)
     ∙ sym (run o w l (λ m b j. alias_kept v m id weak b j) z)
 
 -- ---- an id in progress
-met_kept : (p : Order) (w l : List ℕ) → p.stop ≡ 0 → (c : Bool) → kept_out (met_by c p) w l ≡ then_bind (kept_out p w l) (λ m _ j. meet_within c m j)
+met_kept : (p : Order) (w l : List ℕ) → p.stop ≡ None → (c : Bool) → kept_out (met_by c p) w l ≡ then_bind (kept_out p w l) (λ m _ j. meet_within c m j)
 unfolding met_by meet_within
 met_kept p w l y true = flagged p w l false (strong_of p false) refl
-met_kept p w l y false = refuses p w l 12 (refused_by p 13) (λ m _ j. halted 13 j) y refl refl
+met_kept p w l y false = refuses p w l Cycle (refused_by p Cycle) (λ m _ j. halted 13 j) y refl refl
 
 -- ---- order_type
-module _ (lim : Limit) (T : Table) (o : Order) (w l : List ℕ) (z : o.stop ≡ 0) (id left : ℕ) (weak : Bool) (v : Way) where
+module _ (lim : Limit) (T : Table) (o : Order) (w l : List ℕ) (z : o.stop ≡ None) (id left : ℕ) (weak : Bool) (v : Way) where
   abbrev ordered : MarksAndLeaders → Bool → ℕ → Told MarksAndLeaders
   ordered m _ j = order_kept lim v left T m id weak j
 
-  pub too_deep : (r : Order) → left ≡ 0 → r ≡ refused_by o 12 → kept_out r w l ≡ then_bind (kept_out o w l) (λ m _ j. order_kept lim v left T m id weak j)
+  pub too_deep : (r : Order) → left ≡ 0 → r ≡ refused_by o TooDeep → kept_out r w l ≡ then_bind (kept_out o w l) (λ m _ j. order_kept lim v left T m id weak j)
   unfolding order_kept
-  too_deep r e er = refuses o w l 11 r ordered z er (ap (λ (n : ℕ). order_kept lim v n T (kept_of o w l) id weak o.made) e)
+  too_deep r e er = refuses o w l TooDeep r ordered z er (ap (λ (n : ℕ). order_kept lim v n T (kept_of o w l) id weak o.made) e)
 
   module _ (n : left ≡ 0 → ⊥) (p : Order) (ep : p ≡ opened_by lim o) where
     inside : order_kept lim v left T (kept_of o w l) id weak o.made ≡ order_kept lim v (suc (left - 1)) T (kept_of o w l) id weak o.made
@@ -168,27 +170,27 @@ module _ (lim : Limit) (T : Table) (o : Order) (w l : List ℕ) (z : o.stop ≡ 
     unfolding opened_by
     opened_yes a = ep ∙ rw (opened_by, a) refl
 
-    opened_no : allows lim o.made ≡ false → p ≡ refused_by o 22
+    opened_no : allows lim o.made ≡ false → p ≡ refused_by o CeilingPassed
     unfolding opened_by
     opened_no a = ep ∙ rw (opened_by, a) refl
 
     -- 22: "when one more call would pass the ceiling"
-    pub none_left : (p.stop ≡ 0 → ⊥) → kept_out p w l ≡ then_bind (kept_out o w l) (λ m _ j. order_kept lim v left T m id weak j)
+    pub none_left : is_some p.stop ≡ true → kept_out p w l ≡ then_bind (kept_out o w l) (λ m _ j. order_kept lim v left T m id weak j)
     unfolding order_kept
     none_left q = go (allows lim o.made) refl
       where
         go : (a : Bool) → allows lim o.made ≡ a → kept_out p w l ≡ then_bind (kept_out o w l) ordered
-        go true a = absurd (q (ap (λ (u : Order). u.stop) (opened_yes a) ∙ z))
-        go false a = refuses o w l 21 p ordered z (opened_no a) (inside ∙ rw (order_kept, a) refl)
+        go true a = absurd (true≢false (sym q ∙ ap is_some (ap (λ (u : Order). u.stop) (opened_yes a) ∙ z)))
+        go false a = refuses o w l CeilingPassed p ordered z (opened_no a) (inside ∙ rw (order_kept, a) refl)
 
     -- the call is opened
-    module _ (y : p.stop ≡ 0) (st : ℕ) (es : st ≡ get_field w id 1) where
+    module _ (y : p.stop ≡ None) (st : ℕ) (es : st ≡ get_field w id 1) where
       allowed : allows lim o.made ≡ true
       allowed = go (allows lim o.made) refl
         where
           go : (a : Bool) → allows lim o.made ≡ a → a ≡ true
           go true a = refl
-          go false a = absurd (let q : p.stop ≡ 22 = ap (λ (u : Order). u.stop) (opened_no a) in omega arith)
+          go false a = absurd (true≢false (ap is_some (sym (ap (λ (u : Order). u.stop) (opened_no a)) ∙ y)))
 
       abbrev rec : MarksAndLeaders → ℕ → Bool → ℕ → Told MarksAndLeaders
       rec s' x w' j = order_kept lim (way_for (is_around (T.node id)) v id) (left - 1) T s' x w' j
@@ -220,22 +222,22 @@ module _ (lim : Limit) (T : Table) (o : Order) (w l : List ℕ) (z : o.stop ≡ 
       order_fresh x e ex = opened new e x (λ m _ j. fresh_kept lim v T (left - 1) m id weak j) ex refl
 
 -- an id that is known to be ordered
-pub order_known : (is_set : Bool) (calls : ℕ) (T : Table) (o : Order) (w l : List ℕ) (id left : ℕ) (weak : Bool) (v : Way) → (a : Bool) → a ≡ is_known is_set calls left o w id → a ≡ true
-    → (p : Order) → p ≡ opened_by (limit_by is_set calls) o → (r : Order) → r ≡ strong_of p true
-    → kept_out r w l ≡ then_bind (kept_out o w l) (λ m _ j. order_kept (limit_by is_set calls) v left T m id weak j)
+pub order_known : (ceiling : Option ℕ) (T : Table) (o : Order) (w l : List ℕ) (id left : ℕ) (weak : Bool) (v : Way) → (a : Bool) → a ≡ is_known ceiling left o w id → a ≡ true
+    → (p : Order) → p ≡ opened_by (limit_of ceiling) o → (r : Order) → r ≡ strong_of p true
+    → kept_out r w l ≡ then_bind (kept_out o w l) (λ m _ j. order_kept (limit_of ceiling) v left T m id weak j)
 unfolding opened_by
-order_known is_set calls T o w l id left weak v a ea t p ep r er =
-    order_done (limit_by is_set calls) T o w l k.goes id left weak v k.deep p ep (ap (λ (u : Order). u.stop) (ep ∙ yes (allows (limit_by is_set calls) o.made) k.allowed) ∙ k.goes) (get_field w id 1) refl r (is_done_lem _ k.state) er
+order_known ceiling T o w l id left weak v a ea t p ep r er =
+    order_done (limit_of ceiling) T o w l k.goes id left weak v k.deep p ep (ap (λ (u : Order). u.stop) (ep ∙ yes (allows (limit_of ceiling) o.made) k.allowed) ∙ k.goes) (get_field w id 1) refl r k.state er
   where
-    k : Known is_set calls left o w id
-    k = known_yes is_set calls left o w id (sym ea ∙ t)
+    k : Known ceiling left o w id
+    k = known_yes ceiling left o w id (sym ea ∙ t)
 
-    yes : (q : Bool) → q ≡ true → (elim q as (λ y. Order) [ true ↦ with_made o (one_call (limit_by is_set calls) o.made) | false ↦ refused_by o 22 ]) ≡ with_made o (one_call (limit_by is_set calls) o.made)
+    yes : (q : Bool) → q ≡ true → (elim q as (λ y. Order) [ true ↦ with_made o (one_call (limit_of ceiling) o.made) | false ↦ refused_by o CeilingPassed ]) ≡ with_made o (one_call (limit_of ceiling) o.made)
     yes true e = refl
     yes false e = absurd (true≢false (sym e))
 
 -- ---- the table after a call is the table before it
-pub stays_run : (b : TypeTable) (s : List ℕ) (r : Order) (w₁ l₁ w : List ℕ) → Stays (btf_of b s) w (kept_out r w₁ l₁) → r.stop ≡ 0 → btf_of b s w₁ ≡ btf_of b s w
+pub stays_run : (b : TypeTable) (s : List ℕ) (r : Order) (w₁ l₁ w : List ℕ) → Stays (btf_of b s) w (kept_out r w₁ l₁) → r.stop ≡ None → btf_of b s w₁ ≡ btf_of b s w
 stays_run b s r w₁ l₁ w h z = go (kept_out r w₁ l₁) h (going r w₁ l₁ z)
   where
     ok_work : (m m' : MarksAndLeaders) (f f' : Bool) (j j' : ℕ) → told m f j ≡ told m' f' j' → m ≡ m'
@@ -253,11 +255,11 @@ same_table : (b : TypeTable) (s : List ℕ) (r : Order) (w₁ l₁ w : List ℕ)
 same_table b s r w₁ l₁ w k h =
     by_stop (then_bind (kept_out r w₁ l₁) (k (table_in b s w₁)) ≡ then_bind (kept_out r w₁ l₁) (k (table_in b s w))) r
     (λ z. ap (λ B. then_bind (kept_out r w₁ l₁) (k (table_of B))) (stays_run b s r w₁ l₁ w h z))
-    (λ n. halt r w₁ l₁ (k (table_in b s w₁)) n ∙ sym (halt r w₁ l₁ (k (table_in b s w)) n))
+    (λ c n. halt r w₁ l₁ (k (table_in b s w₁)) c n ∙ sym (halt r w₁ l₁ (k (table_in b s w)) c n))
 
 -- what stands in the work at entry
 entry_stays : (b : TypeTable) (s : List ℕ) (o : Order) (w l : List ℕ) → Stays (btf_of b s) w (kept_out o w l)
-entry_stays b s o w l = by_stop (Stays (btf_of b s) w (kept_out o w l)) o (λ z. subst (Stays (btf_of b s) w) (sym (going o w l z)) (on refl)) (λ n. subst (Stays (btf_of b s) w) (sym (stops o w l n)) off)
+entry_stays b s o w l = by_stop (Stays (btf_of b s) w (kept_out o w l)) o (λ z. subst (Stays (btf_of b s) w) (sym (going o w l z)) (on refl)) (λ c n. subst (Stays (btf_of b s) w) (sym (stops o w l c n)) off)
 
 pub called_stays : (lim : Limit) (b : TypeTable) (s : List ℕ) (o : Order) (w l : List ℕ) (r : Order) (w₁ l₁ : List ℕ) (y left : ℕ) (weak : Bool) (v : Way)
     → kept_out r w₁ l₁ ≡ then_bind (kept_out o w l) (λ m _ j. order_kept lim v left (table_in b s w) m y weak j) → Stays (btf_of b s) w (kept_out r w₁ l₁)
@@ -304,7 +306,7 @@ module _ (lim : Limit) (b : TypeTable) (s : List ℕ) (w l : List ℕ) (o : Orde
     where
       own : then_bind (kept_out r w₁ l₁) (λ m _ j. told (finish (kept_store v) false id m) r.is_strong j) ≡ then_bind (kept_out r w₁ l₁) (λ m f j. told (finish (kept_store v) false id m) f j)
       own = by_stop _ r (λ z. run r w₁ l₁ (λ m _ j. told (finish (kept_store v) false id m) r.is_strong j) z ∙ sym (run r w₁ l₁ (λ m f j. told (finish (kept_store v) false id m) f j) z))
-          (λ n. halt r w₁ l₁ (λ m _ j. told (finish (kept_store v) false id m) r.is_strong j) n ∙ sym (halt r w₁ l₁ (λ m f j. told (finish (kept_store v) false id m) f j) n))
+          (λ c n. halt r w₁ l₁ (λ m _ j. told (finish (kept_store v) false id m) r.is_strong j) c n ∙ sym (halt r w₁ l₁ (λ m f j. told (finish (kept_store v) false id m) f j) c n))
 
   pub new_typedef : (y : ℕ) → nd ≡ code.Typedef y → (u : Way) → u ≡ inside_of v id → (r : Order) (w₁ l₁ : List ℕ) → kept_out r w₁ l₁ ≡ then_bind (kept_out o w l) (λ m _ j. order_kept lim u left T m y weak j)
       → x ≡ then_bind (kept_out r w₁ l₁) (λ m f j. alias_kept v m id weak f j) → Goal
@@ -326,13 +328,13 @@ module _ (lim : Limit) (b : TypeTable) (s : List ℕ) (w l : List ℕ) (o : Orde
       (ex ∙ same_table b s r w₁ l₁ w (λ Q m f j. each_within (way_kept lim v Q left weak) (param_ids b s es) m f j) (called_stays lim b s o w l r w₁ l₁ y left weak v er))) (λ m f j. refl)
 
 -- a pointer to an id that is known to be ordered
-pub new_ptr_known : (is_set : Bool) (calls : ℕ) (b : TypeTable) (s : List ℕ) (w l : List ℕ) (o : Order) (id left : ℕ) (weak : Bool) (v : Way) (t : Record) → t ≡ record_by_id b s w id
-    → (nd : Code) → node_is b s nd ≡ node_of (type_of b s t) → (x : Told MarksAndLeaders) (y : ℕ) → nd ≡ code.Ptr y → (a : Bool) → a ≡ is_known is_set calls left o w y → a ≡ true
-    → (p : Order) → p ≡ opened_by (limit_by is_set calls) o → x ≡ then_bind (kept_out p w l) (λ m _ j. told (finish (kept_store v) false id m) true j)
-    → x ≡ then_bind (kept_out o w l) (λ m _ j. fresh_kept (limit_by is_set calls) v (table_in b s w) left m id weak j)
+pub new_ptr_known : (ceiling : Option ℕ) (b : TypeTable) (s : List ℕ) (w l : List ℕ) (o : Order) (id left : ℕ) (weak : Bool) (v : Way) (t : Record) → t ≡ record_by_id b s w id
+    → (nd : Code) → node_is b s nd ≡ node_of (type_of b s t) → (x : Told MarksAndLeaders) (y : ℕ) → nd ≡ code.Ptr y → (a : Bool) → a ≡ is_known ceiling left o w y → a ≡ true
+    → (p : Order) → p ≡ opened_by (limit_of ceiling) o → x ≡ then_bind (kept_out p w l) (λ m _ j. told (finish (kept_store v) false id m) true j)
+    → x ≡ then_bind (kept_out o w l) (λ m _ j. fresh_kept (limit_of ceiling) v (table_in b s w) left m id weak j)
 unfolding then_bind
-new_ptr_known is_set calls b s w l o id left weak v t et nd en x y e a ea h p ep ex =
-    new_ptr (limit_by is_set calls) b s w l o id left weak v t et nd en x y e (strong_of p true) w l (order_known is_set calls (table_in b s w) o w l y left true v a ea h p ep (strong_of p true) refl)
+new_ptr_known ceiling b s w l o id left weak v t et nd en x y e a ea h p ep ex =
+    new_ptr (limit_of ceiling) b s w l o id left weak v t et nd en x y e (strong_of p true) w l (order_known ceiling (table_in b s w) o w l y left true v a ea h p ep (strong_of p true) refl)
     (ex ∙ sym (bind_then (kept_out p w l) (λ m _ j. told m true j) last) ∙ ap (λ (u : Told MarksAndLeaders). then_bind u last) (sym (flagged p w l true (strong_of p true) refl)))
   where
     last : MarksAndLeaders → Bool → ℕ → Told MarksAndLeaders
@@ -415,7 +417,7 @@ module _ (lim : Limit) (b : TypeTable) (s : List ℕ) (w₀ l₀ : List ℕ) (le
         flag : then_bind (kept_out q w₁ l₁) after ≡ then_bind (kept_out p w₁ l₁) joined
         flag = ap (λ (x : Told MarksAndLeaders). then_bind x after) (flagged p w₁ l₁ (r.is_strong || p.is_strong) q eq)
             ∙ bind_then (kept_out p w₁ l₁) (λ m _ j. told m (r.is_strong || p.is_strong) j) after
-            ∙ by_stop _ p (λ z. run p w₁ l₁ (λ m _ j. after m (r.is_strong || p.is_strong) j) z ∙ sym (run p w₁ l₁ joined z)) (λ n. halt p w₁ l₁ (λ m _ j. after m (r.is_strong || p.is_strong) j) n ∙ sym (halt p w₁ l₁ joined n))
+            ∙ by_stop _ p (λ z. run p w₁ l₁ (λ m _ j. after m (r.is_strong || p.is_strong) j) z ∙ sym (run p w₁ l₁ joined z)) (λ c n. halt p w₁ l₁ (λ m _ j. after m (r.is_strong || p.is_strong) j) c n ∙ sym (halt p w₁ l₁ joined c n))
 
         first : MarksAndLeaders → Bool → ℕ → Told MarksAndLeaders
         first m g j = then_bind (f m (id k) j) (λ m' g' i. each_within f (from id (k + 1) (vlen - (k + 1))) m' (g || g') i)
@@ -424,7 +426,7 @@ module _ (lim : Limit) (b : TypeTable) (s : List ℕ) (w₀ l₀ : List ℕ) (le
         one =
             let d : vlen - k ≡ suc (vlen - (k + 1)) = omega arith in
             ap (λ (n : ℕ). then_bind (kept_out r w l) (λ m g j. each_within f (from id k n) m g j)) d
-            ∙ by_stop _ r (λ z. run r w l first z ∙ sym (run r w l (λ m _ j. then_bind (f m (id k) j) joined) z)) (λ n. halt r w l first n ∙ sym (halt r w l (λ m _ j. then_bind (f m (id k) j) joined) n))
+            ∙ by_stop _ r (λ z. run r w l first z ∙ sym (run r w l (λ m _ j. then_bind (f m (id k) j) joined) z)) (λ c n. halt r w l first c n ∙ sym (halt r w l (λ m _ j. then_bind (f m (id k) j) joined) c n))
             ∙ sym (bind_then (kept_out r w l) (λ m _ j. f m (id k) j) joined)
             ∙ ap (λ (x : Told MarksAndLeaders). then_bind x joined) (sym ep₀)
 
@@ -437,11 +439,11 @@ or_true true = refl
 or_true false = refl
 
 -- a turn whose id is known to be ordered
-pub rest_known : (is_set : Bool) (calls : ℕ) (b : TypeTable) (s : List ℕ) (w₀ l₀ : List ℕ) (left : ℕ) (weak : Bool) (v : Way) (id : ℕ → ℕ) (o : Order) (vlen : ℕ) (r : Order) (w l : List ℕ) (k : ℕ)
-    → Rest (limit_by is_set calls) b s w₀ l₀ left weak v id o vlen r w l k → k < vlen → (y : ℕ) → y ≡ id k → (a : Bool) → a ≡ is_known is_set calls left r w y → a ≡ true
-    → (p : Order) → p ≡ opened_by (limit_by is_set calls) r → (q : Order) → q ≡ strong_of p true → Rest (limit_by is_set calls) b s w₀ l₀ left weak v id o vlen q w l (k + 1)
-rest_known is_set calls b s w₀ l₀ left weak v id o vlen r w l k inv h y ey a ea t p ep q eq =
-    rest_turn (limit_by is_set calls) b s w₀ l₀ left weak v id o vlen r w l k inv h y ey q w l (order_known is_set calls (table_in b s w) r w l y left weak v a ea t p ep q eq) q
+pub rest_known : (ceiling : Option ℕ) (b : TypeTable) (s : List ℕ) (w₀ l₀ : List ℕ) (left : ℕ) (weak : Bool) (v : Way) (id : ℕ → ℕ) (o : Order) (vlen : ℕ) (r : Order) (w l : List ℕ) (k : ℕ)
+    → Rest (limit_of ceiling) b s w₀ l₀ left weak v id o vlen r w l k → k < vlen → (y : ℕ) → y ≡ id k → (a : Bool) → a ≡ is_known ceiling left r w y → a ≡ true
+    → (p : Order) → p ≡ opened_by (limit_of ceiling) r → (q : Order) → q ≡ strong_of p true → Rest (limit_of ceiling) b s w₀ l₀ left weak v id o vlen q w l (k + 1)
+rest_known ceiling b s w₀ l₀ left weak v id o vlen r w l k inv h y ey a ea t p ep q eq =
+    rest_turn (limit_of ceiling) b s w₀ l₀ left weak v id o vlen r w l k inv h y ey q w l (order_known ceiling (table_in b s w) r w l y left weak v a ea t p ep q eq) q
     (eq ∙ ap (strong_of p) (sym (or_true r.is_strong)) ∙ ap (λ (u : Order). strong_of u (r.is_strong || u.is_strong)) (sym eq))
 
 pub entries_end : (lim : Limit) (b : TypeTable) (s : List ℕ) (w₀ l₀ : List ℕ) (left : ℕ) (weak : Bool) (v : Way) (o : Order) (each : Each) (es : Entries) (r : Order) (w l : List ℕ) (k : ℕ)

@@ -1,7 +1,8 @@
 -- Ordering in the lent work, which notes a leader for each listed id beside it: without the leaders it is `order_within` over the work
 -- (proofs/leaders/Maps); with them, and without a ceiling, it is `order_led` of the definitions, with two numbers for what is being ordered
 -- and words for the leaders (session_origins_walk, proofs/request/Leaders).
-use Rattle.std.specs.Prelude.{ℕ, zero, suc, ◌+◌, ◌*◌, ◌/◌, ◌%◌, Bool, true, false, not, ◌&&◌, ◌||◌, List, get_or, set, eqb}
+use Rattle.std.specs.Prelude.{ℕ, zero, suc, ◌+◌, ◌*◌, ◌/◌, ◌%◌, Bool, true, false, not, ◌&&◌, ◌||◌, List, get_or, set, eqb, Some, None}
+use Rattle.spec_bytes.specs.Refusals.{refusal_number}
 use Rattle.spec_c_dumper.specs.rules.Order.{Table, is_done, Store}
 use Rattle.spec_c_dumper.specs.ceiling.Ceiling.{Limit, allows, one_call, Told, told, halted}
 use Rattle.spec_c_dumper.specs.ceiling.Ceiling.{alias_within, enter_within, fresh_within, visit_within}
@@ -72,9 +73,9 @@ order_kept c v (suc n) T s x weak k = elim (allows c k) [
 -- what the code's answer says, with work and leaders at that moment: a stop is a refusal, after which nothing is said of them; the calls
 -- made are told in either case
 unfoldable pub kept_out : Order → List ℕ → List ℕ → Told MarksAndLeaders
-kept_out o w l = elim (eqb o.stop 0) [
-  | true ↦ told (record { marks = record { work = w; len = o.len }; leads = l }) o.is_strong o.made
-  | false ↦ halted o.stop o.made
+kept_out o w l = elim o.stop [
+  | None ↦ told (record { marks = record { work = w; len = o.len }; leads = l }) o.is_strong o.made
+  | Some c ↦ halted (refusal_number c) o.made
 ]
 
 -- The clauses of the rules over this store, after k calls: a typedef after its target, the way to an id, a composite, and an id that is not

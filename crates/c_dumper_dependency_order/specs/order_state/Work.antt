@@ -1,5 +1,6 @@
 -- Ordering in the lent work: the marks stand in word 1 of the types, the order list in their words 11.
-use Rattle.std.specs.Prelude.{ℕ, Bool, true, false, List, eqb}
+use Rattle.std.specs.Prelude.{ℕ, Bool, true, false, List, eqb, Some}
+use Rattle.spec_bytes.specs.declared.refusal.Refusal.{Refusal}
 use Rattle.spec_c_dumper.specs.rules.Order.{Table, Mark, new, busy, done, Store}
 use Rattle.spec_c_dumper.specs.rules.Types.{table_of}
 use Rattle.spec_type_table.specs.declared.types.TypeTable.{TypeTable}
@@ -46,5 +47,5 @@ table_in b s w = table_of (btf_of b s w)
 abbrev pub strong_of : Order → Bool → Order
 strong_of o s = record { made = o.made; len = o.len; stop = o.stop; is_strong = s }
 
-abbrev pub refused_by : Order → ℕ → Order
-refused_by o c = record { made = o.made; len = o.len; stop = c; is_strong = false }
+abbrev pub refused_by : Order → Refusal → Order
+refused_by o c = record { made = o.made; len = o.len; stop = Some c; is_strong = false }

@@ -1,7 +1,8 @@
 -- A request that has nothing to do opens one call: "22 when one more call would pass the ceiling".
-use Rattle.std.specs.Prelude.{ℕ, ◌+◌, true, false, leb}
-use Rattle.c_dumper_dependency_order.specs.declared.ways.Idle.{Idle}
+use Rattle.std.specs.Prelude.{ℕ, ◌+◌, true, false, leb, Result, Ok, Err}
+use Rattle.spec_bytes.specs.declared.refusal.Refusal.{Refusal}
+use Rattle.spec_bytes.specs.declared.refusal.Refusal.TheVariants.{CeilingPassed}
 
--- after k calls, under the ceiling c
-unfoldable pub idle_in : ℕ → ℕ → Idle
-idle_in k c = elim (leb c k) [ true ↦ record { number = 22; made = k } | false ↦ record { number = 0; made = k + 1 } ]
+-- the calls made after it, where k were made before it, under the ceiling c
+unfoldable pub idle_in : ℕ → ℕ → Result ℕ Refusal
+idle_in k c = elim (leb c k) [ true ↦ Err CeilingPassed | false ↦ Ok (k + 1) ]

@@ -1,14 +1,13 @@
 -- Laws of a request: ordering, the listed ids, the emptied list; and requests that have nothing to do. Assumes nothing.
 use Prim.Native.Nat.{ℕ, suc, ◌+◌, ◌<◌, ◌≤◌}
 use mathlib.Core.Path.{◌≡◌, refl, ap, ◌∙◌, sym, subst}
-use mathlib.Core.List.{List, []}
+use mathlib.Core.List.{List}
 use mathlib.Core.Bool.{Bool, true, false}
 use mathlib.Core.Logic.{◌⊎◌, inl, inr}
 use native.Mathlib.Omega.{arith}
-use lib.ListN.{length}
 use lib.Dec.{ltb}
-use Rattle.spec_bytes.specs.text.Text.{cut, bytes, stopped, put_out, written, put_text}
-use Rattle.spec_bytes.proofs.text.TextLaws.{put_fits, stays}
+use Rattle.std.specs.Prelude.{Some, None, Ok, Err}
+use Rattle.spec_bytes.specs.declared.refusal.Refusal.{Refusal}
 use Rattle.spec_c_dumper.specs.rules.Order.{Table, Node, ignored, plain, listed, through, ptr, tdef, proto, comp, Mark, new, busy, done, Res, ok, refused, fresh, visit, order}
 use Rattle.spec_c_dumper.specs.rules.Machine.{Out, wrote, stuck, Machine, obind, eeach, emit, Sess, Answer, shut, emitted, ordered, ordering, gate, single}
 use Rattle.spec_c_dumper.specs.rules.Types.{BtfType, Btf as Rules, node_of, table_of}
@@ -25,10 +24,11 @@ use Rattle.spec_c_dumper.specs.ceiling.Ceiling.{Limit, unbounded, most, Told, ha
 use Rattle.spec_c_dumper.proofs.ceiling.Counted.{tell, within, passes}
 use Rattle.spec_c_dumper.proofs.ceiling.Plain.{unbounded_is}
 use Rattle.c_dumper_dependency_order.specs.declared.order_state.Order.{Order}
-use Rattle.c_dumper_dependency_order.specs.order_state.Work.{Marks, mark_of, work_store, table_in}
-use Rattle.c_dumper_dependency_order.specs.begin.Start.{limit_by}
+use Rattle.c_dumper_dependency_order.specs.declared.order_state.Mark.{Mark as CodeMark}
+use Rattle.c_dumper_dependency_order.specs.declared.order_state.Mark.TheVariants.{New, Open, Done}
+use Rattle.c_dumper_dependency_order.specs.order_state.Work.{Marks, mark_is, mark_of, work_store, table_in}
 use Rattle.c_dumper_dependency_order.specs.leaders.Leads.{MarksAndLeaders, order_kept, kept_out, entry_in}
-use Rattle.c_dumper_dependency_order.proofs.order_state.Laws.{is_done_lem, is_busy, is_new, node_at}
+use Rattle.c_dumper_dependency_order.proofs.order_state.Laws.{node_at}
 use Rattle.c_dumper_dependency_order.proofs.order_type.Laws as kept
 use Rattle.c_dumper_dependency_order.proofs.leaders.Maps.{forget_kept}
 use Rattle.spec_session.specs.metered.Metered.{ordered_in, beside_of, dumped_metered, calls_in}
@@ -36,10 +36,10 @@ use Rattle.spec_session.specs.emission.Sheet.{Sheet, marks_in, with_marks, sheet
 use Rattle.spec_c_dumper.specs.rules.Request.{listed_out, dumped}
 use Rattle.spec_c_dumper.specs.origins.Causes.{Noted}
 use Rattle.spec_c_dumper.proofs.rules.Maps.{rmap, tmap, StoreMap, map_order}
-use Rattle.spec_session.proofs.emission.Laws.{sheet, by_out}
+use Rattle.spec_session.proofs.emission.Laws.{sheet}
 use Rattle.c_dumper_emit.specs.declared.entries.Pen.{Pen}
 use Rattle.c_dumper_emit.specs.entries.Noted.{Lent, noted_out, emit_n}
-use Rattle.c_dumper_emit.proofs.entries.Laws.{paper, goes, halts, obind_then}
+use Rattle.c_dumper_emit.proofs.entries.Laws.{Penned, paper, goes, halts, obind_then}
 use Rattle.c_dumper_emit.specs.dump_type.Kept.{way_to, Beside, with_leads, ordered_kept, each_kept, listed_kept, dumped_kept}
 
 -- ---- ordering beside a text: what the store in the work gives, and the text as it was
@@ -59,7 +59,7 @@ module _ (t : List ℕ) (at : ℕ) where
 
 -- ---- dump_type
 abbrev start : ℕ → Order
-start made = record { made = made; len = 0; stop = 0; is_strong = false }
+start made = record { made = made; len = 0; stop = None; is_strong = false }
 
 module _ (b : TypeTable) (s : List ℕ) (lim : Limit) (w : List ℕ) (id turn made : ℕ) (o : Order) (w₁ l₁ l₀ : List ℕ)
     (e : kept_out o w₁ l₁ ≡ then_bind (kept_out (start made) w l₀) (λ m _ j. order_kept lim (way_to id turn) 512 (table_in b s w) m id false j)) where
@@ -72,7 +72,7 @@ module _ (b : TypeTable) (s : List ℕ) (lim : Limit) (w : List ℕ) (id turn ma
 
   counted : calls_made (tmap marks_of (kept_out o w₁ l₁)) ≡ o.made
   unfolding calls_made
-  counted = kept.by_stop _ o (λ z. ap (λ (q : Told MarksAndLeaders). calls_made (tmap marks_of q)) (kept.going o w₁ l₁ z)) (λ n. ap (λ (q : Told MarksAndLeaders). calls_made (tmap marks_of q)) (kept.stops o w₁ l₁ n))
+  counted = kept.by_stop _ o (λ z. ap (λ (q : Told MarksAndLeaders). calls_made (tmap marks_of q)) (kept.going o w₁ l₁ z)) (λ c n. ap (λ (q : Told MarksAndLeaders). calls_made (tmap marks_of q)) (kept.stops o w₁ l₁ c n))
 
   pub made_is : o.made ≡ calls_made (ordered_in (btf_of b s w) lim (record { work = w; len = 0 }) id made)
   made_is = sym counted ∙ ap calls_made (ap (tmap marks_of) ran ∙ sym (forget_kept lim (way_to id turn) 512 (table_in b s w) (kept.kept_of (start made) w l₀) id false made))
@@ -96,25 +96,15 @@ module _ (b : TypeTable) (s : List ℕ) (lent : Lent) (lim : Limit) (p : Pen) (t
   unfolding dumped_kept
   dumped_is = ap (listed_kept b X lent id turn (paper 0 p tx w li)) (sym order_is)
 
-  run : (k : Beside → Out Beside) → p.at ≤ length tx → obind (with_leads l₀ (noted_out 0 p tx w li)) k ≡ k begun
+  run : (k : Beside → Out Beside) → obind (with_leads l₀ (noted_out 0 (Ok p) tx w li)) k ≡ k begun
   unfolding obind with_leads
-  run k h = ap (λ (q : Out (Noted Sheet)). obind (with_leads l₀ q) k) (goes 0 p tx w li h)
+  run k = ap (λ (q : Out (Noted Sheet)). obind (with_leads l₀ q) k) (goes 0 p tx w li)
 
-  halt : (k : Beside → Out Beside) (c : ℕ) → put_out p.at tx ≡ stopped c → obind (with_leads l₀ (noted_out 0 p tx w li)) k ≡ stuck c
-  unfolding obind with_leads
-  halt k c q = ap (λ (u : Out (Noted Sheet)). obind (with_leads l₀ u) k) (halts 0 p tx w li c q)
+  pub dump_refused : (c : Refusal) → o.stop ≡ Some c → with_leads l₁ (noted_out 0 (Err c) tx w₁ li) ≡ obind (with_leads l₀ (noted_out 0 (Ok p) tx w li)) dumps
+  unfolding listed_kept with_leads
+  dump_refused c e₂ = ap (with_leads l₁) (halts 0 c tx w₁ li) ∙ sym (run dumps ∙ dumped_is ∙ ap (listed_kept b X lent id turn (paper 0 p tx w li)) (kept.stops o w₁ l₁ c e₂))
 
-  stuck_with : (l : List ℕ) (c : ℕ) (u : Out (Noted Sheet)) → u ≡ stuck c → with_leads l u ≡ stuck c
-  unfolding with_leads
-  stuck_with l c u q = ap (with_leads l) q
-
-  pub dump_refused : (o.stop ≡ 0 → ⊥) → (r : Pen) → put_out r.at tx ≡ put_text tx p.at (cut [] o.stop) → with_leads l₁ (noted_out 0 r tx w₁ li) ≡ obind (with_leads l₀ (noted_out 0 p tx w li)) dumps
-  unfolding written bytes listed_kept
-  dump_refused n r er = by_out _ p.at tx
-      (λ h. stuck_with l₁ o.stop (noted_out 0 r tx w₁ li) (halts 0 r tx w₁ li o.stop (er ∙ put_fits tx p.at (cut [] o.stop) (omega arith))) ∙ sym (run dumps h ∙ dumped_is ∙ ap (listed_kept b X lent id turn (paper 0 p tx w li)) (kept.stops o w₁ l₁ n)))
-      (λ c q. stuck_with l₁ c (noted_out 0 r tx w₁ li) (halts 0 r tx w₁ li c (er ∙ stays tx p.at c (cut [] o.stop) q)) ∙ sym (halt dumps c q))
-
-  module _ (z : o.stop ≡ 0) where
+  module _ (z : o.stop ≡ None) where
     -- ordering left the table
     table_is : btf_of b s w₁ ≡ X
     table_is = kept.stays_run b s o w₁ l₁ w (kept.called_stays lim b s (start made) w l₀ o w₁ l₁ id 512 false (way_to id turn) e) z
@@ -123,22 +113,20 @@ module _ (b : TypeTable) (s : List ℕ) (lent : Lent) (lim : Limit) (p : Pen) (t
     last m = wrote (record { mach = (work_machine b X).start 0 m.mach; entries = m.entries })
 
     -- the list is empty again
-    cleared_sheet : (n : ℕ) (r : Pen) (t₂ w₂ l₂ w₃ : List ℕ) → w₃ ≡ emptied n w₂ → noted_out 0 r t₂ w₃ l₂ ≡ obind (noted_out n r t₂ w₂ l₂) last
+    cleared_sheet : (n : ℕ) (r : Penned) (t₂ w₂ l₂ w₃ : List ℕ) → w₃ ≡ emptied n w₂ → noted_out 0 r t₂ w₃ l₂ ≡ obind (noted_out n r t₂ w₂ l₂) last
     unfolding obind work_machine last
-    cleared_sheet n r t₂ w₂ l₂ w₃ ew = by_out _ r.at t₂
-        (λ h. goes 0 r t₂ w₃ l₂ h ∙ ap (λ (u : List ℕ). wrote (paper 0 r t₂ u l₂)) ew ∙ sym (ap (λ (q : Out (Noted Sheet)). obind q last) (goes n r t₂ w₂ l₂ h)))
-        (λ c q. halts 0 r t₂ w₃ l₂ c q ∙ sym (ap (λ (u : Out (Noted Sheet)). obind u last) (halts n r t₂ w₂ l₂ c q)))
+    cleared_sheet n (Ok q) t₂ w₂ l₂ w₃ ew = goes 0 q t₂ w₃ l₂ ∙ ap (λ (u : List ℕ). wrote (paper 0 q t₂ u l₂)) ew ∙ sym (ap (λ (u : Out (Noted Sheet)). obind u last) (goes n q t₂ w₂ l₂))
+    cleared_sheet n (Err c) t₂ w₂ l₂ w₃ ew = halts 0 c t₂ w₃ l₂ ∙ sym (ap (λ (u : Out (Noted Sheet)). obind u last) (halts n c t₂ w₂ l₂))
 
-    pub dump_listed : (r : Pen) (t₂ w₂ l₂ : List ℕ) → noted_out o.len r t₂ w₂ l₂ ≡ obind (noted_out o.len p tx w₁ li) (λ m. eeach (emit_n b (btf_of b s w₁) lent (entry_in id turn l₁) 512 0) (sheet_store.list m.mach) m)
-        → (w₃ : List ℕ) → w₃ ≡ emptied o.len w₂ → with_leads l₁ (noted_out 0 r t₂ w₃ l₂) ≡ obind (with_leads l₀ (noted_out 0 p tx w li)) dumps
+    pub dump_listed : (r : Penned) (t₂ w₂ l₂ : List ℕ) → noted_out o.len r t₂ w₂ l₂ ≡ obind (noted_out o.len (Ok p) tx w₁ li) (λ m. eeach (emit_n b (btf_of b s w₁) lent (entry_in id turn l₁) 512 0) (sheet_store.list m.mach) m)
+        → (w₃ : List ℕ) → w₃ ≡ emptied o.len w₂ → with_leads l₁ (noted_out 0 r t₂ w₃ l₂) ≡ obind (with_leads l₀ (noted_out 0 (Ok p) tx w li)) dumps
     unfolding obind listed_kept each_kept last
     dump_listed r t₂ w₂ l₂ e₂ w₃ e₃ =
         ap (with_leads l₁) (cleared_sheet o.len r t₂ w₂ l₂ w₃ e₃
-        ∙ ap (λ (q : Out (Noted Sheet)). obind q last) (e₂ ∙ ap (λ (Q : Rules). obind (noted_out o.len p tx w₁ li) (λ m. eeach (emit_n b Q lent (entry_in id turn l₁) 512 0) (sheet_store.list m.mach) m)) table_is)
-        ∙ obind_then (noted_out o.len p tx w₁ li) each last)
-        ∙ by_out _ p.at tx
-        (λ h. ap (λ (q : Out (Noted Sheet)). with_leads l₁ (obind q all)) (goes o.len p tx w₁ li h) ∙ sym (run dumps h ∙ dumped_is ∙ ap (listed_kept b X lent id turn (paper 0 p tx w li)) (kept.going o w₁ l₁ z)))
-        (λ c q. stuck_with l₁ c (obind (noted_out o.len p tx w₁ li) all) (ap (λ (u : Out (Noted Sheet)). obind u all) (halts o.len p tx w₁ li c q)) ∙ sym (halt dumps c q))
+        ∙ ap (λ (q : Out (Noted Sheet)). obind q last) (e₂ ∙ ap (λ (Q : Rules). obind (noted_out o.len (Ok p) tx w₁ li) (λ m. eeach (emit_n b Q lent (entry_in id turn l₁) 512 0) (sheet_store.list m.mach) m)) table_is)
+        ∙ obind_then (noted_out o.len (Ok p) tx w₁ li) each last)
+        ∙ ap (λ (q : Out (Noted Sheet)). with_leads l₁ (obind q all)) (goes o.len p tx w₁ li)
+        ∙ sym (run dumps ∙ dumped_is ∙ ap (listed_kept b X lent id turn (paper 0 p tx w li)) (kept.going o w₁ l₁ z))
       where
         each : Noted Sheet → Out (Noted Sheet)
         each m = eeach (emit_n b X lent (entry_in id turn l₁) 512 0) (sheet_store.list m.mach) m
@@ -172,14 +160,6 @@ module _ (b : TypeTable) (B : Rules) (m : Sheet) (id made : ℕ) where
 
 pub plain_made : (B : Rules) (k : Marks) (id made : ℕ) → calls_made (ordered_in B unbounded k id made) ≡ made
 plain_made B k id made = ap calls_made (unbounded_is work_store 512 (table_of B) k id false made) ∙ tell_count (order work_store 512 (table_of B) k id false) made
-
-pub none_is : (is_set : Bool) (n : ℕ) → is_set ≡ false → limit_by is_set n ≡ unbounded
-unfolding limit_by
-none_is is_set n e = ap (λ (q : Bool). limit_by q n) e
-
-pub most_is : (is_set : Bool) (n : ℕ) → is_set ≡ true → limit_by is_set n ≡ most n
-unfolding limit_by
-most_is is_set n e = ap (λ (q : Bool). limit_by q n) e
 
 module _ (b : TypeTable) (s : List ℕ) (m : Sheet) (z : m.len ≡ 0) (id c made : ℕ) where
   abbrev opens : ℕ
@@ -248,22 +228,22 @@ module _ (b : TypeTable) (s : List ℕ) (t : Record) where
   heeds kinds.Enum64 n₁ n₂ n₃ n₄ = refl
   heeds kinds.Unknown n₁ n₂ n₃ n₄ = refl
 
-module _ (b : TypeTable) (s : List ℕ) (w : List ℕ) (id st : ℕ) (es : st ≡ get_field w id 1) where
-  mark_is : (d : Mark) → mark_of st ≡ d → is_idle d ((table_in b s w).node id) ≡ is_idle (mark_of (get_field w id 1)) ((table_in b s w).node id)
-  mark_is d e = ap (λ (x : Mark). is_idle x ((table_in b s w).node id)) (sym (ap mark_of (sym es) ∙ e))
+module _ (b : TypeTable) (s : List ℕ) (w : List ℕ) (id : ℕ) (m : CodeMark) (em : mark_is m ≡ mark_of (get_field w id 1)) where
+  told_by : (d : CodeMark) → m ≡ d → is_idle (mark_is d) ((table_in b s w).node id) ≡ is_idle (mark_of (get_field w id 1)) ((table_in b s w).node id)
+  told_by d e = ap (λ (x : Mark). is_idle x ((table_in b s w).node id)) (ap mark_is (sym e) ∙ em)
 
-  pub idle_done : st ≡ 2 → true ≡ is_idle (mark_of (get_field w id 1)) ((table_in b s w).node id)
+  pub idle_done : m ≡ Done → true ≡ is_idle (mark_of (get_field w id 1)) ((table_in b s w).node id)
   unfolding is_idle
-  idle_done e = mark_is done (is_done_lem st e)
+  idle_done e = told_by Done e
 
-  pub idle_busy : st ≡ 1 → false ≡ is_idle (mark_of (get_field w id 1)) ((table_in b s w).node id)
+  pub idle_busy : m ≡ Open → false ≡ is_idle (mark_of (get_field w id 1)) ((table_in b s w).node id)
   unfolding is_idle
-  idle_busy e = mark_is busy (is_busy st e)
+  idle_busy e = told_by Open e
 
-  module _ (n2 : st ≡ 2 → ⊥) (n1 : st ≡ 1 → ⊥) (t : Record) (et : t ≡ record_by_id b s w id) (k : Kind) (ek : k ≡ kind_named (kind_of t.info)) where
+  module _ (n : m ≡ New) (t : Record) (et : t ≡ record_by_id b s w id) (k : Kind) (ek : k ≡ kind_named (kind_of t.info)) where
     kind_is : is_ignored (node_of (type_as b s t k)) ≡ is_idle (mark_of (get_field w id 1)) ((table_in b s w).node id)
     unfolding is_idle
-    kind_is = ap (λ (y : BtfType). is_ignored (node_of y)) (sym (type_is b s t k ek k refl)) ∙ ap is_ignored (sym (node_at b s w id t et)) ∙ mark_is new (is_new st n2 n1)
+    kind_is = ap (λ (y : BtfType). is_ignored (node_of y)) (sym (type_is b s t k ek k refl)) ∙ ap is_ignored (sym (node_at b s w id t et)) ∙ told_by New n
 
     pub idle_yes : (k ≡ kinds.Func) ⊎ ((k ≡ kinds.Var) ⊎ ((k ≡ kinds.Datasec) ⊎ (k ≡ kinds.DeclTag))) → true ≡ is_idle (mark_of (get_field w id 1)) ((table_in b s w).node id)
     idle_yes g = ignores b s t k g ∙ kind_is

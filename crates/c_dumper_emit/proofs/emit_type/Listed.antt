@@ -2,9 +2,9 @@
 use Prim.Native.Nat.{ℕ, ◌+◌, ◌<◌, ◌≤◌}
 use mathlib.Core.Path.{◌≡◌, refl, ap, ◌∙◌, sym, subst}
 use mathlib.Core.List.{List}
-use native.Mathlib.Omega.{arith}
-use lib.ListN.{length}
-use Rattle.spec_c_dumper.specs.rules.Machine.{Out, wrote, stuck, obind, eeach}
+use Rattle.std.specs.Prelude.{Ok, Err, IsErrAnd}
+use Rattle.spec_bytes.specs.declared.refusal.Refusal.{Refusal}
+use Rattle.spec_c_dumper.specs.rules.Machine.{Out, obind, eeach}
 use Rattle.spec_type_table.specs.declared.types.TypeTable.{TypeTable}
 use Rattle.spec_type_table.specs.declared.types.Entries.{Entries}
 use Rattle.spec_type_table.specs.Cells.{get_field}
@@ -21,43 +21,37 @@ use Rattle.c_dumper_emit.specs.declared.emit_type.Held.{Held}
 use Rattle.c_dumper_emit.specs.declared.emit_type.Held.TheVariants.{Members, Params}
 use Rattle.c_dumper_emit.specs.emit_type.Ids.{held_id, held_ids}
 use Rattle.c_dumper_emit.specs.entries.Noted.{Lent, noted_out, emit_n}
-use Rattle.c_dumper_emit.proofs.entries.Frame.{Stays, on, off, stays_then, places_emit}
-use Rattle.c_dumper_emit.proofs.entries.Laws.{paper, goes, at_sheet, entry_stays}
-use Rattle.c_dumper_emit.proofs.entries.Walk.{Rest, rest_start, rest_turn, rest_end}
+use Rattle.c_dumper_emit.proofs.entries.Frame.{Stays, stays_then, places_emit}
+use Rattle.c_dumper_emit.proofs.entries.Laws.{Penned, kept_by, at_pen, entry_stays}
+use Rattle.c_dumper_emit.proofs.entries.Walk.{Rest, rest_start, rest_turn, rest_end, rest_halts}
 
-pub record Listing (b : TypeTable) (s : List ℕ) (lent : Lent) (why : ℕ → Entry) (w₀ : List ℕ) (n : ℕ) (p₀ : Pen) (tx₀ l₀ : List ℕ) (p : Pen) (tx w li : List ℕ) (k : ℕ) : Type 0 where
+pub record Listing (b : TypeTable) (s : List ℕ) (lent : Lent) (why : ℕ → Entry) (w₀ : List ℕ) (n : ℕ) (p₀ : Pen) (tx₀ l₀ : List ℕ) (p : Penned) (tx w li : List ℕ) (k : ℕ) : Type 0 where
   pub rest : Rest b s lent why w₀ 512 0 (places w₀) n p₀ tx₀ l₀ n p tx w li k
   pub list : Stays places w₀ (noted_out n p tx w li)
 
 module _ (b : TypeTable) (s : List ℕ) (lent : Lent) (why : ℕ → Entry) (w₀ : List ℕ) (n : ℕ) (p₀ : Pen) (tx₀ l₀ : List ℕ) where
-  pub listing_start : Listing b s lent why w₀ n p₀ tx₀ l₀ p₀ tx₀ w₀ l₀ 0
+  pub listing_start : Listing b s lent why w₀ n p₀ tx₀ l₀ (Ok p₀) tx₀ w₀ l₀ 0
   listing_start = record { rest = rest_start b s lent why w₀ 512 0 (places w₀) n p₀ tx₀ l₀ n; list = entry_stays b s places n p₀ tx₀ w₀ l₀ }
 
-  module _ (p : Pen) (tx w li : List ℕ) (k : ℕ) (inv : Listing b s lent why w₀ n p₀ tx₀ l₀ p tx w li k) where
-    same_list : p.at ≤ length tx → places w ≡ places w₀
-    same_list h = go (noted_out n p tx w li) inv.list (goes n p tx w li h)
-      where
-        same_wrote : (m m' : Noted Sheet) → wrote m ≡ wrote m' → m ≡ m'
-        same_wrote m m' e = cc
+  -- the ids of the list
+  all_listed : obind (noted_out n (Ok p₀) tx₀ w₀ l₀) (λ m. eeach (emit_n b (btf_of b s w₀) lent why 512 0) (from (places w₀) 0 n) m) ≡ obind (noted_out n (Ok p₀) tx₀ w₀ l₀) (λ m. eeach (emit_n b (btf_of b s w₀) lent why 512 0) (sheet_store.list m.mach) m)
+  unfolding sheet_store work_store
+  all_listed = at_pen n p₀ tx₀ w₀ l₀ (λ m. eeach (emit_n b (btf_of b s w₀) lent why 512 0) (from (places w₀) 0 n) m) (λ m. eeach (emit_n b (btf_of b s w₀) lent why 512 0) (sheet_store.list m.mach) m) refl
 
-        no : (c : ℕ) (m : Noted Sheet) → stuck c ≡ wrote m → ⊥
-        no c m e = let z : ◌≡◌ {A = ℕ} 0 1 = cc in omega arith
-
-        go : (o : Out (Noted Sheet)) → Stays places w₀ o → o ≡ wrote (paper n p tx w li) → places w ≡ places w₀
-        go (wrote m) (on e) q = ap (λ (y : Noted Sheet). places y.mach.work) (sym (same_wrote m (paper n p tx w li) q)) ∙ e
-        go (stuck c) off q = absurd (no c (paper n p tx w li) q)
-
-    pub listing_turn : k < n → (y : ℕ) → y ≡ get_field w k 11 → (lent₁ : Lent) → lent₁ ≡ lent → (q : Pen) (tx₁ w₁ l₁ : List ℕ) → noted_out n q tx₁ w₁ l₁ ≡ obind (noted_out n p tx w li) (λ m. emit_n b (btf_of b s w) lent₁ why 512 0 m y)
+  module _ (p : Pen) (tx w li : List ℕ) (k : ℕ) (inv : Listing b s lent why w₀ n p₀ tx₀ l₀ (Ok p) tx w li k) where
+    pub listing_turn : k < n → (y : ℕ) → y ≡ get_field w k 11 → (lent₁ : Lent) → lent₁ ≡ lent → (q : Penned) (tx₁ w₁ l₁ : List ℕ) → noted_out n q tx₁ w₁ l₁ ≡ obind (noted_out n (Ok p) tx w li) (λ m. emit_n b (btf_of b s w) lent₁ why 512 0 m y)
         → Listing b s lent why w₀ n p₀ tx₀ l₀ q tx₁ w₁ l₁ (k + 1)
     listing_turn h y ey lent₁ er q tx₁ w₁ l₁ e = record {
-      rest = rest_turn b s lent why w₀ 512 0 (places w₀) n p₀ tx₀ l₀ n p tx w li k inv.rest y (λ i. ey ∙ ap (λ (f : ℕ → ℕ). f k) (same_list i)) lent₁ er q tx₁ w₁ l₁ e h;
-      list = subst (Stays places w₀) (sym e) (stays_then places w₀ (noted_out n p tx w li) (λ m. emit_n b (btf_of b s w) lent₁ why 512 0 m y) inv.list (λ m. places_emit b (btf_of b s w) lent₁ why 512 m y 0));
+      rest = rest_turn b s lent why w₀ 512 0 (places w₀) n p₀ tx₀ l₀ n p tx w li k inv.rest y (ey ∙ ap (λ (f : ℕ → ℕ). f k) (kept_by places n p tx w li w₀ inv.list)) lent₁ er q tx₁ w₁ l₁ e h;
+      list = subst (Stays places w₀) (sym e) (stays_then places w₀ (noted_out n (Ok p) tx w li) (λ m. emit_n b (btf_of b s w) lent₁ why 512 0 m y) inv.list (λ m. places_emit b (btf_of b s w) lent₁ why 512 m y 0));
     }
 
-    pub listing_end : n ≤ k → noted_out n p tx w li ≡ obind (noted_out n p₀ tx₀ w₀ l₀) (λ m. eeach (emit_n b (btf_of b s w₀) lent why 512 0) (sheet_store.list m.mach) m)
-    unfolding sheet_store work_store
-    listing_end h = rest_end b s lent why w₀ 512 0 (places w₀) n p₀ tx₀ l₀ n p tx w li k inv.rest h
-        ∙ at_sheet n p₀ tx₀ w₀ l₀ (λ m. eeach (emit_n b (btf_of b s w₀) lent why 512 0) (from (places w₀) 0 n) m) (λ m. eeach (emit_n b (btf_of b s w₀) lent why 512 0) (sheet_store.list m.mach) m) (λ _. refl)
+    pub listing_end : n ≤ k → noted_out n (Ok p) tx w li ≡ obind (noted_out n (Ok p₀) tx₀ w₀ l₀) (λ m. eeach (emit_n b (btf_of b s w₀) lent why 512 0) (sheet_store.list m.mach) m)
+    listing_end h = rest_end b s lent why w₀ 512 0 (places w₀) n p₀ tx₀ l₀ n p tx w li k inv.rest h ∙ all_listed
+
+  pub listing_halts : (c : Refusal) (tx w li : List ℕ) (k : ℕ) → Listing b s lent why w₀ n p₀ tx₀ l₀ (Err c) tx w li k → (r : Penned) → IsErrAnd r (λ e. e ≡ c)
+      → noted_out n r tx w li ≡ obind (noted_out n (Ok p₀) tx₀ w₀ l₀) (λ m. eeach (emit_n b (btf_of b s w₀) lent why 512 0) (sheet_store.list m.mach) m)
+  listing_halts c tx w li k inv r e = rest_halts b s lent why w₀ 512 0 (places w₀) n p₀ tx₀ l₀ n c tx w li k inv.rest r e ∙ all_listed
 
 -- ---- held_id
 module _ (b : TypeTable) (s : List ℕ) (es : Entries) (k p y : ℕ) (h : Held) (e : y ≡ section_word b s (p + 4)) where
@@ -75,9 +69,15 @@ unfolding held_id member_ids param_ids
 held_all b s es Members = refl
 held_all b s es Params = refl
 
-pub entries_end : (b : TypeTable) (s : List ℕ) (lent : Lent) (why : ℕ → Entry) (w₀ : List ℕ) (left cont : ℕ) (h : Held) (es : Entries) (n : ℕ) (p₀ : Pen) (tx₀ l₀ : List ℕ) (p : Pen) (tx w li : List ℕ) (k : ℕ)
-    → Rest b s lent why w₀ left cont (held_id h b s es) n p₀ tx₀ l₀ es.vlen p tx w li k → es.vlen ≤ k
-    → noted_out n p tx w li ≡ obind (noted_out n p₀ tx₀ w₀ l₀) (λ m. eeach (emit_n b (btf_of b s w₀) lent why left cont) (held_ids h b s es) m)
-entries_end b s lent why w₀ left cont h es n p₀ tx₀ l₀ p tx w li k inv e =
-    rest_end b s lent why w₀ left cont (held_id h b s es) n p₀ tx₀ l₀ es.vlen p tx w li k inv e
-    ∙ ap (λ (ids : List ℕ). obind (noted_out n p₀ tx₀ w₀ l₀) (λ m. eeach (emit_n b (btf_of b s w₀) lent why left cont) ids m)) (held_all b s es h)
+module _ (b : TypeTable) (s : List ℕ) (lent : Lent) (why : ℕ → Entry) (w₀ : List ℕ) (left cont : ℕ) (h : Held) (es : Entries) (n : ℕ) (p₀ : Pen) (tx₀ l₀ : List ℕ) where
+  abbrev Entered : Out (Noted Sheet) → Type 0
+  Entered x = x ≡ obind (noted_out n (Ok p₀) tx₀ w₀ l₀) (λ m. eeach (emit_n b (btf_of b s w₀) lent why left cont) (held_ids h b s es) m)
+
+  all_held : obind (noted_out n (Ok p₀) tx₀ w₀ l₀) (λ m. eeach (emit_n b (btf_of b s w₀) lent why left cont) (from (held_id h b s es) 0 es.vlen) m) ≡ obind (noted_out n (Ok p₀) tx₀ w₀ l₀) (λ m. eeach (emit_n b (btf_of b s w₀) lent why left cont) (held_ids h b s es) m)
+  all_held = ap (λ (ids : List ℕ). obind (noted_out n (Ok p₀) tx₀ w₀ l₀) (λ m. eeach (emit_n b (btf_of b s w₀) lent why left cont) ids m)) (held_all b s es h)
+
+  pub entries_end : (p : Pen) (tx w li : List ℕ) (k : ℕ) → Rest b s lent why w₀ left cont (held_id h b s es) n p₀ tx₀ l₀ es.vlen (Ok p) tx w li k → es.vlen ≤ k → Entered (noted_out n (Ok p) tx w li)
+  entries_end p tx w li k inv e = rest_end b s lent why w₀ left cont (held_id h b s es) n p₀ tx₀ l₀ es.vlen p tx w li k inv e ∙ all_held
+
+  pub entries_halt : (c : Refusal) (tx w li : List ℕ) (k : ℕ) → Rest b s lent why w₀ left cont (held_id h b s es) n p₀ tx₀ l₀ es.vlen (Err c) tx w li k → (r : Penned) → IsErrAnd r (λ e. e ≡ c) → Entered (noted_out n r tx w li)
+  entries_halt c tx w li k inv r e = rest_halts b s lent why w₀ left cont (held_id h b s es) n p₀ tx₀ l₀ es.vlen c tx w li k inv r e ∙ all_held

@@ -6,6 +6,7 @@ use mathlib.Core.Bool.{Bool, true, false, not, ◌&&◌, ◌||◌, true≢false}
 use mathlib.Core.Logic.{◌⊎◌, inl, inr}
 use native.Mathlib.Omega.{arith}
 use lib.Dec.{eqb}
+use Rattle.std.specs.Prelude.{Ok}
 use Rattle.spec_c_dumper.specs.rules.Order.{is_comp}
 use Rattle.spec_c_dumper.specs.rules.Machine.{Out, wrote, is_zero, pick, obind, eeach, once, close, within, begin}
 use Rattle.spec_c_dumper.specs.rules.Types.{BtfType, Btf as Rules, node_of, is_named, table_of}
@@ -27,7 +28,7 @@ use Rattle.spec_c_dumper.specs.origins.Causes.{Entry, Noted, cause_at}
 use Rattle.c_dumper_emit.specs.declared.entries.Pen.{Pen}
 use Rattle.c_dumper_emit.specs.entries.Noted.{Lent, noted_out, line_n, mach_n, emit_n, new_n, leaf_n, composite_n, has_n, mention_n, typedef_n, mentioned_n, ended_n}
 use Rattle.c_dumper_emit.proofs.entries.Frame.{Stays, stays_then, table_each}
-use Rattle.c_dumper_emit.proofs.entries.Laws.{with_n, obind_then, obind_wrote, obind_same, then, work_sheet, same_table, entry_stays, called_stays}
+use Rattle.c_dumper_emit.proofs.entries.Laws.{Penned, with_n, obind_then, obind_wrote, obind_same, then, work_sheet, same_table, entry_stays, called_stays}
 use Rattle.c_dumper_emit.proofs.entries.Walk.{once_fwd, once_alias, zero_is}
 
 -- ---- the measures: a call's is below its caller's
@@ -88,24 +89,24 @@ module _ (b : TypeTable) (s : List ℕ) (lent : Lent) (why : ℕ → Entry) (n :
   rec m' y c = emit_n b Bn lent why left c m' y
 
   abbrev Goal : Type 0
-  Goal = x ≡ obind (noted_out n p tx w li) (λ m. new_n b Bn lent why left cont m id)
+  Goal = x ≡ obind (noted_out n (Ok p) tx w li) (λ m. new_n b Bn lent why left cont m id)
 
-  by_node : (c : Code) → nd ≡ c → (k : Noted Sheet → Out (Noted Sheet)) → x ≡ obind (noted_out n p tx w li) k
+  by_node : (c : Code) → nd ≡ c → (k : Noted Sheet → Out (Noted Sheet)) → x ≡ obind (noted_out n (Ok p) tx w li) k
       → ((m : Noted Sheet) → k m ≡ begin (mach_n b Bn lent why cont) (table_of Bn) rec m id cont (is_zero cont) (node_is b s c)) → Goal
   unfolding new_n
-  by_node c e k ex h = ex ∙ obind_same (noted_out n p tx w li) k (λ m. new_n b Bn lent why left cont m id)
+  by_node c e k ex h = ex ∙ obind_same (noted_out n (Ok p) tx w li) k (λ m. new_n b Bn lent why left cont m id)
       (λ m. h m ∙ ap (begin (mach_n b Bn lent why cont) (table_of Bn) rec m id cont (is_zero cont)) (ap (node_is b s) (sym e) ∙ sym (node_is_lem b s w id t et nd en)))
 
-  pub new_none : (nd ≡ code.Ignored) ⊎ (nd ≡ code.Plain) → x ≡ noted_out n p tx w li → Goal
+  pub new_none : (nd ≡ code.Ignored) ⊎ (nd ≡ code.Plain) → x ≡ noted_out n (Ok p) tx w li → Goal
   unfolding node_is begin
-  new_none (inl e) ex = by_node code.Ignored e (λ m. wrote m) (ex ∙ sym (obind_wrote (noted_out n p tx w li))) (λ m. refl)
-  new_none (inr e) ex = by_node code.Plain e (λ m. wrote m) (ex ∙ sym (obind_wrote (noted_out n p tx w li))) (λ m. refl)
+  new_none (inl e) ex = by_node code.Ignored e (λ m. wrote m) (ex ∙ sym (obind_wrote (noted_out n (Ok p) tx w li))) (λ m. refl)
+  new_none (inr e) ex = by_node code.Plain e (λ m. wrote m) (ex ∙ sym (obind_wrote (noted_out n (Ok p) tx w li))) (λ m. refl)
 
-  pub new_listed : (fwd : Bool) → nd ≡ code.Listed fwd → x ≡ obind (noted_out n p tx w li) (λ m. leaf_n b Bn lent why fwd cont m id) → Goal
+  pub new_listed : (fwd : Bool) → nd ≡ code.Listed fwd → x ≡ obind (noted_out n (Ok p) tx w li) (λ m. leaf_n b Bn lent why fwd cont m id) → Goal
   unfolding node_is begin leaf_n
   new_listed fwd e ex = by_node (code.Listed fwd) e (λ m. leaf_n b Bn lent why fwd cont m id) ex (λ m. refl)
 
-  pub new_on : (y : ℕ) → ((a : Bool) × (nd ≡ code.Through a y)) ⊎ (nd ≡ code.Ptr y) → x ≡ obind (noted_out n p tx w li) (λ m. emit_n b Bn lent why left cont m y) → Goal
+  pub new_on : (y : ℕ) → ((a : Bool) × (nd ≡ code.Through a y)) ⊎ (nd ≡ code.Ptr y) → x ≡ obind (noted_out n (Ok p) tx w li) (λ m. emit_n b Bn lent why left cont m y) → Goal
   unfolding node_is begin emit_n
   new_on y (inl (a, e)) ex = by_node (code.Through a y) e (λ m. emit_n b Bn lent why left cont m y) ex (λ m. refl)
   new_on y (inr e) ex = by_node (code.Ptr y) e (λ m. emit_n b Bn lent why left cont m y) ex (λ m. refl)
@@ -115,28 +116,28 @@ module _ (b : TypeTable) (s : List ℕ) (lent : Lent) (why : ℕ → Entry) (n :
   unfolding node_is
   comp_is es e = comp_node b s t (kind_of t.info) refl (sym (ap is_comp (ap (node_is b s) (sym e) ∙ en)))
 
-  pub new_composite : (es : Entries) → nd ≡ code.Composite es → x ≡ obind (noted_out n p tx w li) (λ m. composite_n b Bn lent why left cont (member_ids b s (entries_of t)) m id) → Goal
+  pub new_composite : (es : Entries) → nd ≡ code.Composite es → x ≡ obind (noted_out n (Ok p) tx w li) (λ m. composite_n b Bn lent why left cont (member_ids b s (entries_of t)) m id) → Goal
   unfolding node_is composite_n new_n
-  new_composite es e ex = ex ∙ obind_same (noted_out n p tx w li) (λ m. composite_n b Bn lent why left cont (member_ids b s (entries_of t)) m id) (λ m. new_n b Bn lent why left cont m id)
+  new_composite es e ex = ex ∙ obind_same (noted_out n (Ok p) tx w li) (λ m. composite_n b Bn lent why left cont (member_ids b s (entries_of t)) m id) (λ m. new_n b Bn lent why left cont m id)
       (λ m. ap (begin (mach_n b Bn lent why cont) (table_of Bn) rec m id cont (is_zero cont)) (comp_is es e ∙ sym (node_at b s w id t et)))
 
-  pub new_proto : (y : ℕ) (es : Entries) → nd ≡ code.Proto y es → (a : Pen) (t₁ w₁ l₁ : List ℕ) (lent₁ : Lent) → lent₁ ≡ lent → noted_out n a t₁ w₁ l₁ ≡ obind (noted_out n p tx w li) (λ m. emit_n b Bn lent why left cont m y)
+  pub new_proto : (y : ℕ) (es : Entries) → nd ≡ code.Proto y es → (a : Penned) (t₁ w₁ l₁ : List ℕ) (lent₁ : Lent) → lent₁ ≡ lent → noted_out n a t₁ w₁ l₁ ≡ obind (noted_out n (Ok p) tx w li) (λ m. emit_n b Bn lent why left cont m y)
       → x ≡ obind (noted_out n a t₁ w₁ l₁) (λ m. eeach (emit_n b (btf_of b s w₁) lent₁ why left cont) (param_ids b s es) m) → Goal
   unfolding node_is begin eeach emit_n
   new_proto y es e a t₁ w₁ l₁ lent₁ er ea ex = by_node (code.Proto y es) e (λ m. obind (emit_n b Bn lent why left cont m y) (λ m'. eeach (emit_n b Bn lent why left cont) (param_ids b s es) m'))
-      (then (noted_out n p tx w li) (λ m. emit_n b Bn lent why left cont m y) (λ m'. eeach (emit_n b Bn lent why left cont) (param_ids b s es) m') (noted_out n a t₁ w₁ l₁) x ea
+      (then (noted_out n (Ok p) tx w li) (λ m. emit_n b Bn lent why left cont m y) (λ m'. eeach (emit_n b Bn lent why left cont) (param_ids b s es) m') (noted_out n a t₁ w₁ l₁) x ea
       (ex ∙ ap (λ (r : Lent). obind (noted_out n a t₁ w₁ l₁) (λ m. eeach (emit_n b (btf_of b s w₁) r why left cont) (param_ids b s es) m)) er
       ∙ same_table b s n a t₁ w₁ l₁ w (λ Q m. eeach (emit_n b Q lent why left cont) (param_ids b s es) m) (called_stays b s n p tx w li a t₁ w₁ l₁ Bn lent why y left cont ea))) (λ m. refl)
 
-  pub new_typedef : (y : ℕ) → nd ≡ code.Typedef y → (w₁ : List ℕ) → w₁ ≡ put_field w id 13 1 → (a : Pen) (t₂ w₂ l₂ : List ℕ) → noted_out n a t₂ w₂ l₂ ≡ obind (noted_out n p tx w₁ li) (λ m. emit_n b (btf_of b s w₁) lent why left id m y)
+  pub new_typedef : (y : ℕ) → nd ≡ code.Typedef y → (w₁ : List ℕ) → w₁ ≡ put_field w id 13 1 → (a : Penned) (t₂ w₂ l₂ : List ℕ) → noted_out n a t₂ w₂ l₂ ≡ obind (noted_out n (Ok p) tx w₁ li) (λ m. emit_n b (btf_of b s w₁) lent why left id m y)
       → (lent₂ : Lent) → lent₂ ≡ lent → x ≡ obind (noted_out n a t₂ w₂ l₂) (λ m. typedef_n b (btf_of b s w₂) lent₂ (type_of b s t) (cause_at 3 (why id) id cont) m id) → Goal
   unfolding node_is begin emit_n has_n work_machine typedef_n
   new_typedef y e w₁ e₁ a t₂ w₂ l₂ e₂ lent₂ er ex =
       by_node (code.Typedef y) e (λ m. obind (rec (with_n m (put_field m.mach.work id 13 1)) y id) rest)
       (end₃
       ∙ ap (λ (o : Out (Noted Sheet)). obind o rest) call₂
-      ∙ obind_then (noted_out n p tx w₁ li) (λ m. emit_n b Bn lent why left id m y) rest
-      ∙ work_sheet n p tx w li (λ u. put_field u id 13 1) w₁ (λ m. obind (emit_n b Bn lent why left id m y) rest) e₁)
+      ∙ obind_then (noted_out n (Ok p) tx w₁ li) (λ m. emit_n b Bn lent why left id m y) rest
+      ∙ work_sheet n (Ok p) tx w li (λ u. put_field u id 13 1) w₁ (λ m. obind (emit_n b Bn lent why left id m y) rest) e₁)
       (λ m. obind_same (rec (with_n m (put_field m.mach.work id 13 1)) y id) rest _
       (λ m'. ap (λ (o : Out (Noted Sheet)). obind o (λ m''. wrote (with_n m'' (put_field m''.mach.work id 13 2))))
       (once_alias b Bn lent why cont (type_of b s t) (cause_at 3 (why id) id cont) m' id refl ((mach_n b Bn lent why cont).has_fwd m' id) (sym (type_at b s w id t et)))))
@@ -147,8 +148,8 @@ module _ (b : TypeTable) (s : List ℕ) (lent : Lent) (why : ℕ → Entry) (n :
       same₁ : btf_of b s w₁ ≡ Bn
       same₁ = ap (btf_of b s) e₁ ∙ table_emark b s w id 1
 
-      call₂ : noted_out n a t₂ w₂ l₂ ≡ obind (noted_out n p tx w₁ li) (λ m. emit_n b Bn lent why left id m y)
-      call₂ = e₂ ∙ ap (λ (Q : Rules). obind (noted_out n p tx w₁ li) (λ m. emit_n b Q lent why left id m y)) same₁
+      call₂ : noted_out n a t₂ w₂ l₂ ≡ obind (noted_out n (Ok p) tx w₁ li) (λ m. emit_n b Bn lent why left id m y)
+      call₂ = e₂ ∙ ap (λ (Q : Rules). obind (noted_out n (Ok p) tx w₁ li) (λ m. emit_n b Q lent why left id m y)) same₁
 
       end₃ : x ≡ obind (noted_out n a t₂ w₂ l₂) rest
       end₃ = ex ∙ ap (λ (r : Lent). obind (noted_out n a t₂ w₂ l₂) (λ m. typedef_n b (btf_of b s w₂) r (type_of b s t) (cause_at 3 (why id) id cont) m id)) er
@@ -187,9 +188,9 @@ module _ (b : TypeTable) (s : List ℕ) (lent : Lent) (why : ℕ → Entry) (n :
   within_is true false e = refl
   within_is false f e = absurd (true≢false (sym e))
 
-  pub composite_mention : (nm && not (eqb cont 0)) ≡ true → (x : Out (Noted Sheet)) → x ≡ obind (noted_out n p tx w li) (λ m. mentioned_n b Bc lent (type_of b s t) cont m id) → x ≡ obind (noted_out n p tx w li) Composed
+  pub composite_mention : (nm && not (eqb cont 0)) ≡ true → (x : Out (Noted Sheet)) → x ≡ obind (noted_out n (Ok p) tx w li) (λ m. mentioned_n b Bc lent (type_of b s t) cont m id) → x ≡ obind (noted_out n (Ok p) tx w li) Composed
   unfolding within close mention_n mentioned_n has_n work_machine
-  composite_mention z x ex = ex ∙ obind_same (noted_out n p tx w li) (λ m. mentioned_n b Bc lent (type_of b s t) cont m id) Composed
+  composite_mention z x ex = ex ∙ obind_same (noted_out n (Ok p) tx w li) (λ m. mentioned_n b Bc lent (type_of b s t) cont m id) Composed
       (λ m. ap (λ (o : Out (Noted Sheet)). obind o (λ m'. wrote (with_n m' (put_field m'.mach.work id 13 0))))
       (once_fwd b Bc lent why cont (type_of b s t) (with_n m (put_field m.mach.work id 13 1)) id (not (eqb (get_field (put_field m.mach.work id 13 1) id 3) 0) || eqb id cont) (sym (type_at b s w id t et))
       ∙ ap (λ (v : ℕ). once (mach_n b Bc lent why cont) (table_of Bc) (mach_n b Bc lent why cont).fwd_line id (not (eqb v 0) || eqb id cont) (with_n m (put_field m.mach.work id 13 1))) (field_other m.mach.work id 13 1 id 3 (omega arith) (omega arith) (λ q. omega arith)))
@@ -199,14 +200,14 @@ module _ (b : TypeTable) (s : List ℕ) (lent : Lent) (why : ℕ → Entry) (n :
     same₁ : btf_of b s w₁ ≡ Bc
     same₁ = ap (btf_of b s) e₁ ∙ table_emark b s w id 1
 
-    members_call : (c : ℕ) (a : Pen) (t₂ w₂ l₂ : List ℕ) → noted_out n a t₂ w₂ l₂ ≡ obind (noted_out n p tx w₁ li) (λ m. eeach (emit_n b (btf_of b s w₁) lent why left c) ms m)
-        → noted_out n a t₂ w₂ l₂ ≡ obind (noted_out n p tx w li) (λ m. eeach (emit_n b Bc lent why left c) ms (with_n m (put_field m.mach.work id 13 1)))
-    members_call c a t₂ w₂ l₂ e = e ∙ ap (λ (Q : Rules). obind (noted_out n p tx w₁ li) (λ m. eeach (emit_n b Q lent why left c) ms m)) same₁ ∙ work_sheet n p tx w li (λ u. put_field u id 13 1) w₁ (λ m. eeach (emit_n b Bc lent why left c) ms m) e₁
+    members_call : (c : ℕ) (a : Penned) (t₂ w₂ l₂ : List ℕ) → noted_out n a t₂ w₂ l₂ ≡ obind (noted_out n (Ok p) tx w₁ li) (λ m. eeach (emit_n b (btf_of b s w₁) lent why left c) ms m)
+        → noted_out n a t₂ w₂ l₂ ≡ obind (noted_out n (Ok p) tx w li) (λ m. eeach (emit_n b Bc lent why left c) ms (with_n m (put_field m.mach.work id 13 1)))
+    members_call c a t₂ w₂ l₂ e = e ∙ ap (λ (Q : Rules). obind (noted_out n (Ok p) tx w₁ li) (λ m. eeach (emit_n b Q lent why left c) ms m)) same₁ ∙ work_sheet n (Ok p) tx w li (λ u. put_field u id 13 1) w₁ (λ m. eeach (emit_n b Bc lent why left c) ms m) e₁
 
-    members_stay : (c : ℕ) (a : Pen) (t₂ w₂ l₂ : List ℕ) → noted_out n a t₂ w₂ l₂ ≡ obind (noted_out n p tx w₁ li) (λ m. eeach (emit_n b (btf_of b s w₁) lent why left c) ms m) → Stays (btf_of b s) w₁ (noted_out n a t₂ w₂ l₂)
+    members_stay : (c : ℕ) (a : Penned) (t₂ w₂ l₂ : List ℕ) → noted_out n a t₂ w₂ l₂ ≡ obind (noted_out n (Ok p) tx w₁ li) (λ m. eeach (emit_n b (btf_of b s w₁) lent why left c) ms m) → Stays (btf_of b s) w₁ (noted_out n a t₂ w₂ l₂)
     unfolding emit_n
     members_stay c a t₂ w₂ l₂ e = subst (Stays (btf_of b s) w₁) (sym e)
-        (stays_then (btf_of b s) w₁ (noted_out n p tx w₁ li) (λ m. eeach (emit_n b (btf_of b s w₁) lent why left c) ms m) (entry_stays b s (btf_of b s) n p tx w₁ li) (λ m. table_each b s (btf_of b s w₁) lent why left c ms m))
+        (stays_then (btf_of b s) w₁ (noted_out n (Ok p) tx w₁ li) (λ m. eeach (emit_n b (btf_of b s w₁) lent why left c) ms m) (entry_stays b s (btf_of b s) n p tx w₁ li) (λ m. table_each b s (btf_of b s w₁) lent why left c ms m))
 
     -- the members within c, and what ends the composite
     abbrev then_ends : ℕ → Bool → BtfType → Noted Sheet → Out (Noted Sheet)
@@ -221,13 +222,13 @@ module _ (b : TypeTable) (s : List ℕ) (lent : Lent) (why : ℕ → Entry) (n :
     ended_is true z h m = ap (λ (y : BtfType). then_ends (pick nm id cont) true y m) (sym (type_at b s w id t et)) ∙ begun true nm (zero_is cont ∙ z) refl m
     ended_is false z h m = ap (λ (v : Bool). then_ends (pick v id cont) false (type_of b s t) m) (nameless nm h) ∙ begun false false (zero_is cont ∙ z) (nameless nm h) m
 
-    pub composite_ends : (c₀ : ℕ) → c₀ ≡ pick nm id cont → (a : Pen) (t₂ w₂ l₂ : List ℕ) → noted_out n a t₂ w₂ l₂ ≡ obind (noted_out n p tx w₁ li) (λ m. eeach (emit_n b (btf_of b s w₁) lent why left c₀) ms m)
-        → (lent₂ : Lent) → lent₂ ≡ lent → (x : Out (Noted Sheet)) → x ≡ obind (noted_out n a t₂ w₂ l₂) (λ m. ended_n b (btf_of b s w₂) lent₂ (eqb cont 0) (type_of b s t) (why id) m id) → x ≡ obind (noted_out n p tx w li) Composed
+    pub composite_ends : (c₀ : ℕ) → c₀ ≡ pick nm id cont → (a : Penned) (t₂ w₂ l₂ : List ℕ) → noted_out n a t₂ w₂ l₂ ≡ obind (noted_out n (Ok p) tx w₁ li) (λ m. eeach (emit_n b (btf_of b s w₁) lent why left c₀) ms m)
+        → (lent₂ : Lent) → lent₂ ≡ lent → (x : Out (Noted Sheet)) → x ≡ obind (noted_out n a t₂ w₂ l₂) (λ m. ended_n b (btf_of b s w₂) lent₂ (eqb cont 0) (type_of b s t) (why id) m id) → x ≡ obind (noted_out n (Ok p) tx w li) Composed
     composite_ends c₀ ec a t₂ w₂ l₂ e₂ lent₂ er x ex =
         ex ∙ ap (λ (r : Lent). obind (noted_out n a t₂ w₂ l₂) (λ m. ended_n b (btf_of b s w₂) r (eqb cont 0) (type_of b s t) (why id) m id)) er
         ∙ same_table b s n a t₂ w₂ l₂ w₁ (λ Q m. ended_n b Q lent (eqb cont 0) (type_of b s t) (why id) m id) (members_stay c₀ a t₂ w₂ l₂ e₂)
         ∙ ap (λ (Q : Rules). obind (noted_out n a t₂ w₂ l₂) (λ m. ended_n b Q lent (eqb cont 0) (type_of b s t) (why id) m id)) same₁
         ∙ ap (λ (o : Out (Noted Sheet)). obind o (λ m. ended_n b Bc lent (eqb cont 0) (type_of b s t) (why id) m id)) (members_call c₀ a t₂ w₂ l₂ e₂)
-        ∙ obind_then (noted_out n p tx w li) (λ m. eeach (emit_n b Bc lent why left c₀) ms (with_n m (put_field m.mach.work id 13 1))) (λ m. ended_n b Bc lent (eqb cont 0) (type_of b s t) (why id) m id)
-        ∙ obind_same (noted_out n p tx w li) (λ m. then_ends c₀ (eqb cont 0) (type_of b s t) m) Composed
+        ∙ obind_then (noted_out n (Ok p) tx w li) (λ m. eeach (emit_n b Bc lent why left c₀) ms (with_n m (put_field m.mach.work id 13 1))) (λ m. ended_n b Bc lent (eqb cont 0) (type_of b s t) (why id) m id)
+        ∙ obind_same (noted_out n (Ok p) tx w li) (λ m. then_ends c₀ (eqb cont 0) (type_of b s t) m) Composed
         (λ m. ap (λ (i : ℕ). then_ends i (eqb cont 0) (type_of b s t) m) ec ∙ ended_is (eqb cont 0) refl g m)

@@ -7,7 +7,8 @@ use mathlib.Core.Logic.{⊎_elim, ◌≢◌}
 use native.Mathlib.Omega.{arith}
 use lib.Dec.{eqb, ltb}
 use lib.ListN.{length}
-use Rattle.spec_bytes.specs.text.Text.{Out as TextOut, done as lies, stopped, put_text}
+use Rattle.std.specs.Prelude.{Ok}
+use Rattle.spec_bytes.specs.text.Placed.{Out as TextOut, done as lies, stopped, put_text}
 use Rattle.spec_bytes.proofs.words.Laws.{le_or_lt}
 use Rattle.spec_c_dumper.specs.rules.Order.{Node, ignored, plain, listed, through, ptr, tdef, proto, comp, Mark, new, busy, done}
 use Rattle.spec_c_dumper.specs.rules.Machine.{Out, wrote, stuck, Machine, is_zero, pick, obind, eeach, once, mention, again, close, leaf, within, begin, allowed, look}
@@ -57,8 +58,8 @@ module _ {X : Type 0} (P : List ℕ → X) where
         inner u e (lies t at) = on e
         inner u e (stopped c) = off
 
-        go : (s : Said (List ℕ)) → P (said_names s) ≡ P m.work → Stays m.work (with_entries es (sheet_of m.len (put_said m.text m.at s)))
-        go (said u x) e = inner u e (put_text m.text m.at x)
+        go : (s : Said (List ℕ)) → P (said_names s) ≡ P m.work → Stays m.work (with_entries es (sheet_of m.len (put_said m.text (Ok m.at) s)))
+        go (said u x) e = inner u e (put_text m.text (Ok m.at) x)
 
     stays_line : (shown : Bool) (e : Entry) (v : Writer (List ℕ)) → Keeps P v → (m : Noted Sheet) → Stays m.mach.work (line (up_to lent.room) shown e (λ k. line_in v k) m)
     unfolding line

@@ -8,8 +8,11 @@ use native.Mathlib.Numerals.{add-one}
 use lib.Dec.{ltb}
 use lib.ListN.{length, length-append}
 use borrow.Author.Tests.{eq-eqb, ne_eqb, lt-ltb, le-ltb}
-use Rattle.spec_bytes.specs.text.Text.{cut, bytes, stopped, is_stopped, put_out, written, put_text}
-use Rattle.spec_bytes.proofs.text.TextLaws.{out_done, put_fits, stays}
+use Rattle.std.specs.Prelude.{Ok, Err, Result, IsErrAnd}
+use Rattle.spec_bytes.specs.Refusals.{refusal_number}
+use Rattle.spec_bytes.specs.declared.refusal.Refusal.{Refusal}
+use Rattle.spec_bytes.specs.declared.refusal.Refusal.TheVariants.{TextFull}
+use Rattle.spec_bytes.specs.text.Placed.{Placed}
 use Rattle.spec_bytes.specs.words.Words.{get_word, put_word}
 use Rattle.spec_bytes.proofs.words.Laws.{put_length, get_put_same, get_put_other}
 use Rattle.spec_c_dumper.specs.rules.Machine.{Out, wrote, stuck, obind}
@@ -17,21 +20,21 @@ use Rattle.spec_c_dumper.specs.rules.Types.{Btf as Rules, name_of, is_named, is_
 use Rattle.spec_c_dumper.specs.rules.Names.{contains, builtin}
 use Rattle.spec_c_dumper.specs.rules.Writer.{Writer}
 use Rattle.spec_c_dumper.specs.rules.Place.{out_of, put_said}
-use Rattle.spec_c_dumper.proofs.rules.Writing.{said_stopped}
 use Rattle.spec_type_table.specs.declared.types.TypeTable.{TypeTable}
 use Rattle.spec_type_table.specs.declared.types.BtfType.{BtfType as Record}
+use Rattle.spec_type_table.specs.Cells.{put_field}
 use Rattle.spec_type_table.specs.Names.{str_at}
 use Rattle.spec_type_table.specs.Records.{kind_of}
 use Rattle.spec_type_table.specs.Table.{type_of, btf_of}
 use Rattle.spec_type_table.proofs.KindLaws.{by_kind, type_0, type_1, type_2, type_3, type_4, type_5, type_6, type_7, type_8, type_9, type_10, type_11, type_12, type_13, type_14, type_15, type_16, type_17, type_18, type_19, type_none}
-use Rattle.spec_session.specs.emission.Sheet.{Sheet, sheet_of, with_work, line_in}
-use Rattle.spec_session.proofs.emission.Laws.{sheet, by_out}
+use Rattle.spec_session.specs.emission.Sheet.{Sheet, sheet_of, with_work, emit_out, line_in}
+use Rattle.spec_session.proofs.emission.Laws.{sheet}
 use Rattle.spec_session.proofs.emission.Laws as plainly
 use Rattle.spec_c_dumper.specs.origins.Causes.{Entry, entry, Noted, with_entries, up_to, line, cause_at}
 use Rattle.c_dumper_dependency_order.specs.leaders.Leads.{leader_in, entry_in}
 use Rattle.c_dumper_emit.specs.declared.entries.Pen.{Pen}
 use Rattle.c_dumper_emit.specs.declared.entries.Origin.{Origin}
-use Rattle.c_dumper_emit.specs.entries.Noted.{Lent, cause_code, entry_at, entries_of, entry_of, entry_put, noted_out, note_n, note_if_n, line_n, shown_of, emit_n}
+use Rattle.c_dumper_emit.specs.entries.Noted.{Lent, cause_code, entry_at, entries_of, entry_of, entry_put, noted_out, note_n, note_if_n, line_n, shown_of, emit_n, state_n}
 use Rattle.c_dumper_emit.proofs.entries.Frame.{Stays, on, off, stays_then, table_emit}
 
 abbrev pub paper : ℕ → Pen → List ℕ → List ℕ → List ℕ → Noted Sheet
@@ -147,14 +150,17 @@ module _ (b : TypeTable) (s : List ℕ) (t : Record) where
   pub shown_named : (nm : Bool) → nm ≡ is_named (type_of b s t) → nm ≡ true → (f : Bool) → f ≡ builtin (str_at b s t.name_off) → not f ≡ shown_of (type_of b s t)
   shown_named nm e h f ef = ap not (ef ∙ ap builtin (sym (name_is (kind_of t.info) refl (sym e ∙ h))))
 
--- ---- a place inside, or a refusal
-pub goes : (n : ℕ) (p : Pen) (t w l : List ℕ) → p.at ≤ length t → noted_out n p t w l ≡ wrote (paper n p t w l)
-unfolding noted_out with_entries
-goes n p t w l h = ap (with_entries (entries_of p.count l)) (plainly.goes n p.at t w h)
+-- ---- a pen, or a refusal
+abbrev pub Penned : Type 0
+Penned = Result Pen Refusal
 
-pub halts : (n : ℕ) (p : Pen) (t w l : List ℕ) (c : ℕ) → put_out p.at t ≡ stopped c → noted_out n p t w l ≡ stuck c
+pub goes : (n : ℕ) (p : Pen) (t w l : List ℕ) → noted_out n (Ok p) t w l ≡ wrote (paper n p t w l)
 unfolding noted_out with_entries
-halts n p t w l c e = ap (with_entries (entries_of p.count l)) (plainly.halts n p.at t w c e)
+goes n p t w l = ap (with_entries (entries_of p.count l)) (plainly.goes n p.at t w)
+
+pub halts : (n : ℕ) (c : Refusal) (t w l : List ℕ) → noted_out n (Err c) t w l ≡ stuck (refusal_number c)
+unfolding noted_out
+halts n c t w l = refl
 
 -- ---- obind
 pub obind_then : (o : Out (Noted Sheet)) (k k' : Noted Sheet → Out (Noted Sheet)) → obind (obind o k) k' ≡ obind o (λ m. obind (k m) k')
@@ -173,70 +179,90 @@ obind_same o k k' e = ap (obind o) (λ i m. e m i)
 pub then : (x : Out (Noted Sheet)) (k k' : Noted Sheet → Out (Noted Sheet)) (y z : Out (Noted Sheet)) → y ≡ obind x k → z ≡ obind y k' → z ≡ obind x (λ m. obind (k m) k')
 then x k k' y z e f = f ∙ ap (λ (o : Out (Noted Sheet)). obind o k') e ∙ obind_then x k k'
 
+module _ (n : ℕ) (t w l : List ℕ) where
+  run : (p : Pen) (k : Noted Sheet → Out (Noted Sheet)) → obind (noted_out n (Ok p) t w l) k ≡ k (paper n p t w l)
+  unfolding obind
+  run p k = ap (λ (o : Out (Noted Sheet)). obind o k) (goes n p t w l)
+
+  halt : (c : Refusal) (k : Noted Sheet → Out (Noted Sheet)) → obind (noted_out n (Err c) t w l) k ≡ stuck (refusal_number c)
+  unfolding obind
+  halt c k = ap (λ (o : Out (Noted Sheet)). obind o k) (halts n c t w l)
+
+  -- `?` hands on what stopped the writing, whatever comes after
+  pub ended : (c : Refusal) (r : Penned) (k : Noted Sheet → Out (Noted Sheet)) → IsErrAnd r (λ e. e ≡ c) → noted_out n r t w l ≡ obind (noted_out n (Err c) t w l) k
+  ended c (Ok p) k e = absurd e
+  ended c (Err d) k e = ap (λ (z : Refusal). noted_out n (Err z) t w l) e ∙ halts n c t w l ∙ sym (halt c k)
+
+module _ (n : ℕ) (p : Penned) (t w l : List ℕ) where
+  -- a sheet that is at hand
+  pub at_sheet : (k k' : Noted Sheet → Out (Noted Sheet)) → ((q : Pen) → p ≡ Ok q → k (paper n q t w l) ≡ k' (paper n q t w l)) → obind (noted_out n p t w l) k ≡ obind (noted_out n p t w l) k'
+  at_sheet k k' e = go p e
+    where
+      go : (r : Penned) → ((q : Pen) → r ≡ Ok q → k (paper n q t w l) ≡ k' (paper n q t w l)) → obind (noted_out n r t w l) k ≡ obind (noted_out n r t w l) k'
+      go (Ok q) h = run n t w l q k ∙ h q refl ∙ sym (run n t w l q k')
+      go (Err c) h = halt n t w l c k ∙ sym (halt n t w l c k')
+
+  -- a step on the work alone, and then more
+  pub work_sheet : (f : List ℕ → List ℕ) (w' : List ℕ) (k : Noted Sheet → Out (Noted Sheet)) → w' ≡ f w → obind (noted_out n p t w' l) k ≡ obind (noted_out n p t w l) (λ m. k (with_n m (f m.mach.work)))
+  work_sheet f w' k e = go p
+    where
+      go : (r : Penned) → obind (noted_out n r t w' l) k ≡ obind (noted_out n r t w l) (λ m. k (with_n m (f m.mach.work)))
+      go (Ok q) = run n t w' l q k ∙ ap (λ (u : List ℕ). k (paper n q t u l)) e ∙ sym (run n t w l q (λ m. k (with_n m (f m.mach.work))))
+      go (Err c) = halt n t w' l c k ∙ sym (halt n t w l c (λ m. k (with_n m (f m.mach.work))))
+
+  pub work_last : (f : List ℕ → List ℕ) (w' : List ℕ) → w' ≡ f w → noted_out n p t w' l ≡ obind (noted_out n p t w l) (λ m. wrote (with_n m (f m.mach.work)))
+  work_last f w' e = sym (obind_wrote (noted_out n p t w' l)) ∙ work_sheet f w' (λ m. wrote m) e
+
+  pub state_last : (x k : ℕ) (w' : List ℕ) → w' ≡ put_field w x 13 k → noted_out n p t w' l ≡ obind (noted_out n p t w l) (λ m. wrote (state_n x k m))
+  state_last x k w' e = work_last (λ u. put_field u x 13 k) w' e
+
+  pub flag_last : (x : ℕ) (w' : List ℕ) → w' ≡ put_field w x 3 1 → noted_out n p t w' l ≡ obind (noted_out n p t w l) (λ m. wrote (with_n m (put_field m.mach.work x 3 1)))
+  flag_last x w' e = work_last (λ u. put_field u x 3 1) w' e
+
 module _ (n : ℕ) (p : Pen) (t w l : List ℕ) where
   abbrev Here : Out (Noted Sheet)
-  Here = noted_out n p t w l
+  Here = noted_out n (Ok p) t w l
 
-  run : (k : Noted Sheet → Out (Noted Sheet)) → p.at ≤ length t → obind Here k ≡ k (paper n p t w l)
-  unfolding obind
-  run k h = ap (λ (o : Out (Noted Sheet)). obind o k) (goes n p t w l h)
-
-  halt : (k : Noted Sheet → Out (Noted Sheet)) (c : ℕ) → put_out p.at t ≡ stopped c → obind Here k ≡ stuck c
-  unfolding obind
-  halt k c q = ap (λ (o : Out (Noted Sheet)). obind o k) (halts n p t w l c q)
-
-  -- a sheet that is at hand
-  pub at_sheet : (k k' : Noted Sheet → Out (Noted Sheet)) → (p.at ≤ length t → k (paper n p t w l) ≡ k' (paper n p t w l)) → obind Here k ≡ obind Here k'
-  at_sheet k k' e = by_out _ p.at t (λ h. run k h ∙ e h ∙ sym (run k' h)) (λ c q. halt k c q ∙ sym (halt k' c q))
+  -- from a pen
+  pub at_pen : (k k' : Noted Sheet → Out (Noted Sheet)) → k (paper n p t w l) ≡ k' (paper n p t w l) → obind Here k ≡ obind Here k'
+  at_pen k k' e = run n t w l p k ∙ e ∙ sym (run n t w l p k')
 
   -- nothing done
   pub same_sheet : (k : Noted Sheet → Out (Noted Sheet)) → k (paper n p t w l) ≡ wrote (paper n p t w l) → Here ≡ obind Here k
-  same_sheet k e = sym (obind_wrote Here) ∙ at_sheet (λ m. wrote m) k (λ h. sym e)
-
-  -- from a stopped place
-  pub stopped_sheet : (k : Noted Sheet → Out (Noted Sheet)) → is_stopped (put_out p.at t) ≡ true → Here ≡ obind Here k
-  unfolding is_stopped
-  stopped_sheet k h = by_out _ p.at t (λ i. absurd (no (sym (ap is_stopped (out_done p.at t i)) ∙ h))) (λ c q. halts n p t w l c q ∙ sym (halt k c q))
-    where
-      no : false ≡ true → ⊥
-      no e = true≢false (sym e)
+  same_sheet k e = goes n p t w l ∙ sym (run n t w l p k ∙ e)
 
   -- a refusal
-  pub stop_sheet : (c : ℕ) (r : Pen) (k : Noted Sheet → Out (Noted Sheet)) → put_out r.at t ≡ put_text t p.at (cut [] c) → (p.at ≤ length t → k (paper n p t w l) ≡ stuck c) → noted_out n r t w l ≡ obind Here k
-  unfolding written bytes
-  stop_sheet c r k e f = by_out _ p.at t
-      (λ h. halts n r t w l c (e ∙ put_fits t p.at (cut [] c) (omega arith)) ∙ sym (run k h ∙ f h))
-      (λ d q. halts n r t w l d (e ∙ stays t p.at d (cut [] c) q) ∙ sym (halt k d q))
+  pub stop_sheet : (c : Refusal) (k : Noted Sheet → Out (Noted Sheet)) → k (paper n p t w l) ≡ stuck (refusal_number c) → noted_out n (Err c) t w l ≡ obind Here k
+  stop_sheet c k e = halts n c t w l ∙ sym (run n t w l p k ∙ e)
 
   -- what a writer says
-  said_sheet : (v : Writer (List ℕ)) (a : ℕ) (t' w' : List ℕ) → out_of a t' w' ≡ put_said t p.at (v w) → noted_out n (record { at = a; count = p.count }) t' w' l ≡ obind Here (λ m. with_entries m.entries (line_in v m.mach))
-  unfolding line_in is_stopped noted_out
-  said_sheet v a t' w' e = by_out _ p.at t
-      (λ h. ap (λ q. with_entries (entries_of p.count l) (sheet_of n q)) e ∙ sym (run (λ m. with_entries m.entries (line_in v m.mach)) h))
-      (λ c q. ap (λ z. with_entries (entries_of p.count l) (sheet_of n z)) (e ∙ sym (said_stopped t p.at (v w) w (ap is_stopped q))) ∙ halts n p t w l c q ∙ sym (halt (λ m. with_entries m.entries (line_in v m.mach)) c q))
+  abbrev writes : Writer (List ℕ) → Noted Sheet → Out (Noted Sheet)
+  writes v m = with_entries m.entries (line_in v m.mach)
 
-  -- a step on the work alone, and then more
-  pub work_sheet : (f : List ℕ → List ℕ) (w' : List ℕ) (k : Noted Sheet → Out (Noted Sheet)) → w' ≡ f w → obind (noted_out n p t w' l) k ≡ obind Here (λ m. k (with_n m (f m.mach.work)))
-  unfolding obind
-  work_sheet f w' k e = by_out _ p.at t
-      (λ h. ap (λ (o : Out (Noted Sheet)). obind o k) (goes n p t w' l h) ∙ ap (λ (u : List ℕ). k (paper n p t u l)) e ∙ sym (run (λ m. k (with_n m (f m.mach.work))) h))
-      (λ c q. ap (λ (o : Out (Noted Sheet)). obind o k) (halts n p t w' l c q) ∙ sym (halt (λ m. k (with_n m (f m.mach.work))) c q))
+  said_sheet : (v : Writer (List ℕ)) (a : Placed) (t' w' : List ℕ) → out_of a t' w' ≡ put_said t (Ok p.at) (v w) → with_entries (entries_of p.count l) (sheet_of n (out_of a t' w')) ≡ obind Here (writes v)
+  unfolding line_in
+  said_sheet v a t' w' e = ap (λ q. with_entries (entries_of p.count l) (sheet_of n q)) e ∙ sym (run n t w l p (writes v))
 
-  pub work_last : (f : List ℕ → List ℕ) (w' : List ℕ) → w' ≡ f w → noted_out n p t w' l ≡ obind Here (λ m. wrote (with_n m (f m.mach.work)))
-  work_last f w' e = sym (obind_wrote (noted_out n p t w' l)) ∙ work_sheet f w' (λ m. wrote m) e
+  pub said_goes : (v : Writer (List ℕ)) (a : ℕ) (t' w' : List ℕ) → out_of (Ok a) t' w' ≡ put_said t (Ok p.at) (v w) → noted_out n (Ok (record { at = a; count = p.count })) t' w' l ≡ obind Here (writes v)
+  unfolding noted_out
+  said_goes v a t' w' e = said_sheet v (Ok a) t' w' e
+
+  pub said_halts : (v : Writer (List ℕ)) (c : Refusal) (r : Penned) (t' w' : List ℕ) → out_of (Err c) t' w' ≡ put_said t (Ok p.at) (v w) → IsErrAnd r (λ e. e ≡ c) → noted_out n r t' w' l ≡ obind Here (writes v)
+  unfolding with_entries
+  said_halts v c (Ok q) t' w' e i = absurd i
+  said_halts v c (Err d) t' w' e i = halts n d t' w' l ∙ ap (with_entries (entries_of p.count l)) (sym (plainly.halts n d t' w')) ∙ ap (λ (z : Refusal). with_entries (entries_of p.count l) (emit_out n (Err z) t' w')) i ∙ said_sheet v (Err c) t' w' e
 
   -- ---- a note
-  pub note_full : (room : ℕ) (e : Entry) (r : ℕ) → room ≤ p.count → put_out r t ≡ put_text t p.at (cut [] 17) → noted_out n (record { at = r; count = p.count }) t w l ≡ obind Here (λ m. note_n room e m)
+  pub note_full : (room : ℕ) (e : Entry) → room ≤ p.count → noted_out n (Err TextFull) t w l ≡ obind Here (λ m. note_n room e m)
   unfolding note_n
-  note_full room e r h er = stop_sheet 17 (record { at = r; count = p.count }) (λ m. note_n room e m) er (λ _. rw (entries_length p.count l, le-ltb p.count room h, note_n))
+  note_full room e h = stop_sheet TextFull (λ m. note_n room e m) (rw (entries_length p.count l, le-ltb p.count room h, note_n))
 
-  pub note_more : (e : Origin) (l' : List ℕ) → p.count < length l / 12 → l' ≡ entry_put l p.count e → noted_out n (record { at = p.at; count = p.count + 1 }) t w l' ≡ obind Here (λ m. note_n (length l / 12) (entry_of e) m)
+  pub note_more : (e : Origin) (l' : List ℕ) → p.count < length l / 12 → l' ≡ entry_put l p.count e → noted_out n (Ok (record { at = p.at; count = p.count + 1 })) t w l' ≡ obind Here (λ m. note_n (length l / 12) (entry_of e) m)
   unfolding note_n
-  note_more e l' h el = by_out _ p.at t
-      (λ i. goes n (record { at = p.at; count = p.count + 1 }) t w l' i
+  note_more e l' h el =
+      goes n (record { at = p.at; count = p.count + 1 }) t w l'
       ∙ ap (λ (es : List Entry). wrote (record { mach = sheet n p.at t w; entries = es })) (ap (entries_of (p.count + 1)) el ∙ entries_more p.count l e h)
-      ∙ sym (run (λ m. note_n (length l / 12) (entry_of e) m) i ∙ rw (entries_length p.count l, lt-ltb p.count (length l / 12) h, note_n)))
-      (λ c q. halts n (record { at = p.at; count = p.count + 1 }) t w l' c q ∙ sym (halt (λ m. note_n (length l / 12) (entry_of e) m) c q))
+      ∙ sym (run n t w l p (λ m. note_n (length l / 12) (entry_of e) m) ∙ rw (entries_length p.count l, lt-ltb p.count (length l / 12) h, note_n))
 
   pub noteif_yes : (f : Bool) (room : ℕ) (e : Entry) (x : Out (Noted Sheet)) → f ≡ true → x ≡ obind Here (λ m. note_n room e m) → x ≡ obind Here (λ m. note_if_n f room e m)
   unfolding note_if_n
@@ -257,18 +283,14 @@ line_is true room e v m = go (ltb (length m.entries) room)
     go true = refl
     go false = refl
 
-module _ (n : ℕ) (p : Pen) (t w l : List ℕ) where
-  -- a line: its entry, and what the writer says
-  line_noted : (f : Bool) (room : ℕ) (e : Entry) (v : Writer (List ℕ)) (q : Pen) (l' : List ℕ) (a : ℕ) (t' w' : List ℕ) → noted_out n q t w l' ≡ obind (noted_out n p t w l) (λ m. note_if_n f room e m)
-      → out_of a t' w' ≡ put_said t q.at (v w) → noted_out n (record { at = a; count = q.count }) t' w' l' ≡ obind (noted_out n p t w l) (λ m. line (up_to room) f e (λ k. line_in v k) m)
-  line_noted f room e v q l' a t' w' eq el =
-      then (noted_out n p t w l) (λ m. note_if_n f room e m) (λ m. with_entries m.entries (line_in v m.mach)) (noted_out n q t w l') (noted_out n (record { at = a; count = q.count }) t' w' l') eq (said_sheet n q t w l' v a t' w' el)
-      ∙ obind_same (noted_out n p t w l) (λ m. obind (note_if_n f room e m) (λ k. with_entries k.entries (line_in v k.mach))) (λ m. line (up_to room) f e (λ k. line_in v k) m) (λ m. line_is f room e v m)
-
-  pub line_shown : (f g : Bool) (lent : Lent) (e : Entry) (v : Writer (List ℕ)) (q : Pen) (l' : List ℕ) (a : ℕ) (t' w' : List ℕ) → f ≡ (lent.lists && g) → noted_out n q t w l' ≡ obind (noted_out n p t w l) (λ m. note_if_n f lent.room e m)
-      → out_of a t' w' ≡ put_said t q.at (v w) → noted_out n (record { at = a; count = q.count }) t' w' l' ≡ obind (noted_out n p t w l) (λ m. line_n lent g e v m)
-  unfolding line_n
-  line_shown f g lent e v q l' a t' w' fg eq el = line_noted f lent.room e v q l' a t' w' eq el ∙ ap (λ (x : Bool). obind (noted_out n p t w l) (λ m. line (up_to lent.room) x e (λ k. line_in v k) m)) fg
+-- a line: its entry, and what the writer says
+pub line_shown : (o x : Out (Noted Sheet)) (f g : Bool) (lent : Lent) (e : Entry) (v : Writer (List ℕ)) (y : Out (Noted Sheet)) → f ≡ (lent.lists && g) → y ≡ obind o (λ m. note_if_n f lent.room e m)
+    → x ≡ obind y (λ m. with_entries m.entries (line_in v m.mach)) → x ≡ obind o (λ m. line_n lent g e v m)
+unfolding line_n
+line_shown o x f g lent e v y fg ey ex =
+    then o (λ m. note_if_n f lent.room e m) (λ m. with_entries m.entries (line_in v m.mach)) y x ey ex
+    ∙ obind_same o (λ m. obind (note_if_n f lent.room e m) (λ k. with_entries k.entries (line_in v k.mach))) (λ m. line (up_to lent.room) f e (λ k. line_in v k) m) (λ m. line_is f lent.room e v m)
+    ∙ ap (λ (z : Bool). obind o (λ m. line (up_to lent.room) z e (λ k. line_in v k) m)) fg
 
 -- a list of the same length has the same room
 abbrev pub lent_length : Bool → ℕ → Lent
@@ -284,29 +306,31 @@ pub and_true : (f : Bool) → f ≡ (f && true)
 and_true true = refl
 and_true false = refl
 
+-- ---- what is kept where a call ended with a pen
+pub kept_by : {X : Type 0} → (P : List ℕ → X) (n : ℕ) (a : Pen) (t₁ w₁ l₁ w : List ℕ) → Stays P w (noted_out n (Ok a) t₁ w₁ l₁) → P w₁ ≡ P w
+kept_by P n a t₁ w₁ l₁ w h = go (noted_out n (Ok a) t₁ w₁ l₁) h (goes n a t₁ w₁ l₁)
+  where
+    same_wrote : (m m' : Noted Sheet) → wrote m ≡ wrote m' → m ≡ m'
+    same_wrote m m' e = cc
+
+    no : (c : ℕ) (m : Noted Sheet) → stuck c ≡ wrote m → ⊥
+    no c m e = let k : ◌≡◌ {A = ℕ} 0 1 = cc in omega arith
+
+    go : (o : Out (Noted Sheet)) → Stays P w o → o ≡ wrote (paper n a t₁ w₁ l₁) → P w₁ ≡ P w
+    go (wrote m) (on e) q = ap (λ (y : Noted Sheet). P y.mach.work) (sym (same_wrote m (paper n a t₁ w₁ l₁) q)) ∙ e
+    go (stuck c) off q = absurd (no c (paper n a t₁ w₁ l₁) q)
+
 -- ---- the table after a call is the table before it
 module _ (b : TypeTable) (s : List ℕ) where
-  table_run : (n : ℕ) (a : Pen) (t₁ w₁ l₁ w : List ℕ) → Stays (btf_of b s) w (noted_out n a t₁ w₁ l₁) → a.at ≤ length t₁ → btf_of b s w₁ ≡ btf_of b s w
-  table_run n a t₁ w₁ l₁ w h i = go (noted_out n a t₁ w₁ l₁) h (goes n a t₁ w₁ l₁ i)
-    where
-      same_wrote : (m m' : Noted Sheet) → wrote m ≡ wrote m' → m ≡ m'
-      same_wrote m m' e = cc
-
-      no : (c : ℕ) (m : Noted Sheet) → stuck c ≡ wrote m → ⊥
-      no c m e = let k : ◌≡◌ {A = ℕ} 0 1 = cc in omega arith
-
-      go : (o : Out (Noted Sheet)) → Stays (btf_of b s) w o → o ≡ wrote (paper n a t₁ w₁ l₁) → btf_of b s w₁ ≡ btf_of b s w
-      go (wrote m) (on e) q = ap (λ (y : Noted Sheet). btf_of b s y.mach.work) (sym (same_wrote m (paper n a t₁ w₁ l₁) q)) ∙ e
-      go (stuck c) off q = absurd (no c (paper n a t₁ w₁ l₁) q)
-
-  pub same_table : (n : ℕ) (a : Pen) (t₁ w₁ l₁ w : List ℕ) (k : Rules → Noted Sheet → Out (Noted Sheet)) → Stays (btf_of b s) w (noted_out n a t₁ w₁ l₁)
+  pub same_table : (n : ℕ) (a : Penned) (t₁ w₁ l₁ w : List ℕ) (k : Rules → Noted Sheet → Out (Noted Sheet)) → Stays (btf_of b s) w (noted_out n a t₁ w₁ l₁)
       → obind (noted_out n a t₁ w₁ l₁) (k (btf_of b s w₁)) ≡ obind (noted_out n a t₁ w₁ l₁) (k (btf_of b s w))
-  same_table n a t₁ w₁ l₁ w k h = at_sheet n a t₁ w₁ l₁ (k (btf_of b s w₁)) (k (btf_of b s w)) (λ i. ap (λ (B : Rules). k B (paper n a t₁ w₁ l₁)) (table_run n a t₁ w₁ l₁ w h i))
+  same_table n a t₁ w₁ l₁ w k h = at_sheet n a t₁ w₁ l₁ (k (btf_of b s w₁)) (k (btf_of b s w))
+      (λ q e. ap (λ (B : Rules). k B (paper n q t₁ w₁ l₁)) (kept_by (btf_of b s) n q t₁ w₁ l₁ w (subst (λ (r : Penned). Stays (btf_of b s) w (noted_out n r t₁ w₁ l₁)) e h)))
 
-  pub entry_stays : {X : Type 0} → (P : List ℕ → X) (n : ℕ) (p : Pen) (t w l : List ℕ) → Stays P w (noted_out n p t w l)
-  entry_stays P n p t w l = by_out _ p.at t (λ i. subst (Stays P w) (sym (goes n p t w l i)) (on refl)) (λ c q. subst (Stays P w) (sym (halts n p t w l c q)) off)
+  pub entry_stays : {X : Type 0} → (P : List ℕ → X) (n : ℕ) (p : Pen) (t w l : List ℕ) → Stays P w (noted_out n (Ok p) t w l)
+  entry_stays P n p t w l = subst (Stays P w) (sym (goes n p t w l)) (on refl)
 
-  pub called_stays : (n : ℕ) (p : Pen) (t w l : List ℕ) (a : Pen) (t₁ w₁ l₁ : List ℕ) (B : Rules) (lent : Lent) (why : ℕ → Entry) (y left cont : ℕ)
-      → noted_out n a t₁ w₁ l₁ ≡ obind (noted_out n p t w l) (λ m. emit_n b B lent why left cont m y) → Stays (btf_of b s) w (noted_out n a t₁ w₁ l₁)
+  pub called_stays : (n : ℕ) (p : Pen) (t w l : List ℕ) (a : Penned) (t₁ w₁ l₁ : List ℕ) (B : Rules) (lent : Lent) (why : ℕ → Entry) (y left cont : ℕ)
+      → noted_out n a t₁ w₁ l₁ ≡ obind (noted_out n (Ok p) t w l) (λ m. emit_n b B lent why left cont m y) → Stays (btf_of b s) w (noted_out n a t₁ w₁ l₁)
   called_stays n p t w l a t₁ w₁ l₁ B lent why y left cont e =
-      subst (Stays (btf_of b s) w) (sym e) (stays_then (btf_of b s) w (noted_out n p t w l) (λ m. emit_n b B lent why left cont m y) (entry_stays (btf_of b s) n p t w l) (λ m. table_emit b s B lent why left m y cont))
+      subst (Stays (btf_of b s) w) (sym e) (stays_then (btf_of b s) w (noted_out n (Ok p) t w l) (λ m. emit_n b B lent why left cont m y) (entry_stays (btf_of b s) n p t w l) (λ m. table_emit b s B lent why left m y cont))

@@ -1,14 +1,15 @@
 -- The walk of emission with entries: what each return comes to, against the rules. Assumes nothing.
 use Prim.Native.Nat.{ℕ, zero, suc, ◌+◌, ◌-◌, ◌<◌, ◌≤◌}
 use mathlib.Core.Path.{◌≡◌, refl, ap, ◌∙◌, sym, subst}
-use mathlib.Core.List.{List, []}
+use mathlib.Core.List.{List}
 use mathlib.Core.Bool.{Bool, true, false, not, ◌&&◌, ◌||◌, true≢false}
 use mathlib.Core.Logic.{◌⊎◌, inl, inr}
 use native.Mathlib.Omega.{arith}
 use lib.Dec.{eqb}
-use lib.ListN.{length}
 use borrow.Author.Tests.{eqb-true, eqb-false, eq-eqb, ne_eqb}
-use Rattle.spec_bytes.specs.text.Text.{cut, put_out, put_text}
+use Rattle.std.specs.Prelude.{Ok, Err, IsErrAnd}
+use Rattle.spec_bytes.specs.declared.refusal.Refusal.{Refusal}
+use Rattle.spec_bytes.specs.declared.refusal.Refusal.TheVariants.{TooDeep, Cycle, NamelessTypedef}
 use Rattle.spec_c_dumper.specs.rules.Order.{Node, ignored, plain, listed, through, ptr, tdef, proto, comp, Mark, new, busy, done}
 use Rattle.spec_c_dumper.specs.rules.Machine.{Out, wrote, is_zero, obind, eeach, once, mention, again, leaf, allowed, look}
 use Rattle.spec_c_dumper.specs.rules.Types.{BtfType, Btf as Rules, node_of, is_named, member_types, table_of}
@@ -30,10 +31,12 @@ use Rattle.spec_c_dumper.specs.origins.Causes.{Entry, entry, Noted, up_to, line,
 use Rattle.c_dumper_emit.specs.declared.entries.Pen.{Pen}
 use Rattle.c_dumper_emit.specs.declared.steps.EmitState.{EmitState}
 use Rattle.c_dumper_emit.specs.declared.steps.EmitState.TheVariants.{NotEmitted, Emitting, Emitted}
+use Rattle.c_dumper_emit.specs.contracts.steps.EmitState.{the_type}
+use denote.Enum.Bare.{sameb}
 use Rattle.c_dumper_emit.specs.steps.States.{emit_state_of}
-use Rattle.c_dumper_emit.specs.entries.Noted.{Lent, noted_out, line_n, shown_of, mach_n, emit_n, new_n, again_n, leaf_n, has_n, once_n, mention_n}
+use Rattle.c_dumper_emit.specs.entries.Noted.{Lent, noted_out, line_n, shown_of, mach_n, emit_n, new_n, again_n, leaf_n, has_n, once_n, mention_n, state_n}
 use Rattle.c_dumper_emit.proofs.entries.Frame.{Stays, stays_then, table_emit}
-use Rattle.c_dumper_emit.proofs.entries.Laws.{paper, with_n, obind_then, obind_wrote, obind_same, then, at_sheet, same_sheet, stop_sheet, work_last, same_table, entry_stays}
+use Rattle.c_dumper_emit.proofs.entries.Laws.{Penned, paper, with_n, ended, obind_then, obind_wrote, obind_same, then, at_pen, same_sheet, stop_sheet, work_last, same_table, entry_stays}
 
 -- ---- emit_once, emit_mention
 module _ (b : TypeTable) (B : Rules) (lent : Lent) (ty : BtfType) (n : ℕ) (p : Pen) (t w li : List ℕ) (id : ℕ) where
@@ -45,20 +48,19 @@ module _ (b : TypeTable) (B : Rules) (lent : Lent) (ty : BtfType) (n : ℕ) (p :
     abbrev once_then : Noted Sheet → Out (Noted Sheet)
     once_then m = once_n b B lent ty e (has_n b B lent m id) m id
 
-    pub once_had : had ≡ true → noted_out n p t w li ≡ obind (noted_out n p t w li) once_then
+    pub once_had : had ≡ true → noted_out n (Ok p) t w li ≡ obind (noted_out n (Ok p) t w li) once_then
     unfolding once_n once
     once_had h = same_sheet n p t w li once_then (ap (λ (x : Bool). once_n b B lent ty e x (paper n p t w li) id) (sym (had_is had eh) ∙ h))
 
-    pub once_new : had ≡ false → (a : Pen) (t₁ w₁ l₁ w₂ : List ℕ) → noted_out n a t₁ w₁ l₁ ≡ obind (noted_out n p t w li) (λ m. line_n lent (shown_of ty) e (forward_once (work_asks b.types B) (work_naming b) B id ty) m) → w₂ ≡ put_field w₁ id 3 1
-        → noted_out n a t₁ w₂ l₁ ≡ obind (noted_out n p t w li) once_then
+    pub once_new : had ≡ false → (y : Out (Noted Sheet)) → y ≡ obind (noted_out n (Ok p) t w li) (λ m. line_n lent (shown_of ty) e (forward_once (work_asks b.types B) (work_naming b) B id ty) m)
+        → (x : Out (Noted Sheet)) → x ≡ obind y (λ m. wrote (with_n m (put_field m.mach.work id 3 1))) → x ≡ obind (noted_out n (Ok p) t w li) once_then
     unfolding once_n once work_machine
-    once_new h a t₁ w₁ l₁ w₂ el ew =
-        then (noted_out n p t w li) (λ m. line_n lent (shown_of ty) e (forward_once (work_asks b.types B) (work_naming b) B id ty) m) (λ m. wrote (with_n m (put_field m.mach.work id 3 1))) (noted_out n a t₁ w₁ l₁) (noted_out n a t₁ w₂ l₁) el
-        (work_last n a t₁ w₁ l₁ (λ u. put_field u id 3 1) w₂ ew)
-        ∙ at_sheet n p t w li (λ m. obind (line_n lent (shown_of ty) e (forward_once (work_asks b.types B) (work_naming b) B id ty) m) (λ m'. wrote (with_n m' (put_field m'.mach.work id 3 1)))) once_then
-        (λ _. ap (λ (x : Bool). once_n b B lent ty e x (paper n p t w li) id) (sym (sym (had_is had eh) ∙ h)))
+    once_new h y ey x ex =
+        then (noted_out n (Ok p) t w li) (λ m. line_n lent (shown_of ty) e (forward_once (work_asks b.types B) (work_naming b) B id ty) m) (λ m. wrote (with_n m (put_field m.mach.work id 3 1))) y x ey ex
+        ∙ at_pen n p t w li (λ m. obind (line_n lent (shown_of ty) e (forward_once (work_asks b.types B) (work_naming b) B id ty) m) (λ m'. wrote (with_n m' (put_field m'.mach.work id 3 1)))) once_then
+        (ap (λ (x : Bool). once_n b B lent ty e x (paper n p t w li) id) (sym (sym (had_is had eh) ∙ h)))
 
-  pub mention_self : (cont : ℕ) → id ≡ cont → noted_out n p t w li ≡ obind (noted_out n p t w li) (λ m. mention_n b B lent ty cont m id)
+  pub mention_self : (cont : ℕ) → id ≡ cont → noted_out n (Ok p) t w li ≡ obind (noted_out n (Ok p) t w li) (λ m. mention_n b B lent ty cont m id)
   unfolding mention_n once_n once
   mention_self cont e = same_sheet n p t w li (λ m. mention_n b B lent ty cont m id)
       (ap (λ (x : Bool). once_n b B lent ty (entry id 2 cont) x (paper n p t w li) id) (or_true (has_n b B lent (paper n p t w li) id) (eqb id cont) (eq-eqb id cont e)))
@@ -67,9 +69,9 @@ module _ (b : TypeTable) (B : Rules) (lent : Lent) (ty : BtfType) (n : ℕ) (p :
       or_true true y h = refl
       or_true false y h = h
 
-  pub mention_other : (cont : ℕ) → (id ≡ cont → ⊥) → (z : Entry) → z ≡ entry id 2 cont → (x : Out (Noted Sheet)) → x ≡ obind (noted_out n p t w li) (λ m. once_n b B lent ty z (has_n b B lent m id) m id) → x ≡ obind (noted_out n p t w li) (λ m. mention_n b B lent ty cont m id)
+  pub mention_other : (cont : ℕ) → (id ≡ cont → ⊥) → (z : Entry) → z ≡ entry id 2 cont → (x : Out (Noted Sheet)) → x ≡ obind (noted_out n (Ok p) t w li) (λ m. once_n b B lent ty z (has_n b B lent m id) m id) → x ≡ obind (noted_out n (Ok p) t w li) (λ m. mention_n b B lent ty cont m id)
   unfolding mention_n
-  mention_other cont e z ez x ex = ex ∙ ap (λ (y : Entry). obind (noted_out n p t w li) (λ m. once_n b B lent ty y (has_n b B lent m id) m id)) ez ∙ obind_same (noted_out n p t w li) (λ m. once_n b B lent ty (entry id 2 cont) (has_n b B lent m id) m id) (λ m. mention_n b B lent ty cont m id)
+  mention_other cont e z ez x ex = ex ∙ ap (λ (y : Entry). obind (noted_out n (Ok p) t w li) (λ m. once_n b B lent ty y (has_n b B lent m id) m id)) ez ∙ obind_same (noted_out n (Ok p) t w li) (λ m. once_n b B lent ty (entry id 2 cont) (has_n b B lent m id) m id) (λ m. mention_n b B lent ty cont m id)
       (λ m. ap (λ (y : Bool). once_n b B lent ty (entry id 2 cont) y m id) (or_false (has_n b B lent m id) (eqb id cont) (ne_eqb id cont e)))
     where
       or_false : (x y : Bool) → y ≡ false → x ≡ (x || y)
@@ -121,7 +123,7 @@ module _ (b : TypeTable) (s : List ℕ) (lent : Lent) (why : ℕ → Entry) (n :
   B = btf_of b s w
 
   abbrev Again : Out (Noted Sheet) → Type 0
-  Again x = x ≡ obind (noted_out n p tx w li) (λ m. again_n b B lent why cont m id)
+  Again x = x ≡ obind (noted_out n (Ok p) tx w li) (λ m. again_n b B lent why cont m id)
 
   again_quiet : (m : Noted Sheet) (nd : Node) → (mach_n b B lent why cont).has_fwd m id ≡ true → again (mach_n b B lent why cont) (table_of B) m id cont nd ≡ wrote m
   unfolding again once mention
@@ -139,7 +141,7 @@ module _ (b : TypeTable) (s : List ℕ) (lent : Lent) (why : ℕ → Entry) (n :
     unfolding work_machine
     fwd_is = sym eh
 
-    pub again_had : had ≡ true → Again (noted_out n p tx w li)
+    pub again_had : had ≡ true → Again (noted_out n (Ok p) tx w li)
     unfolding again_n
     again_had h = same_sheet n p tx w li (λ m. again_n b B lent why cont m id) (again_quiet (paper n p tx w li) ((table_of B).node id) (fwd_is ∙ h))
 
@@ -160,7 +162,7 @@ module _ (b : TypeTable) (s : List ℕ) (lent : Lent) (why : ℕ → Entry) (n :
           go (inr e) = kind_node k ek kinds.Union e ∙ last (member_types (members_of b s t))
 
       module _ (k : Kind) (ek : k ≡ kind_named (kind_of t.info)) where
-        pub again_self : (k ≡ kinds.Struct) ⊎ (k ≡ kinds.Union) → id ≡ cont → Again (noted_out n p tx w li)
+        pub again_self : (k ≡ kinds.Struct) ⊎ (k ≡ kinds.Union) → id ≡ cont → Again (noted_out n (Ok p) tx w li)
         unfolding again_n mention
         again_self g e = same_sheet n p tx w li (λ m. again_n b B lent why cont m id) (comp_at k ek g ∙ ap (λ (f : Bool). mention (mach_n b B lent why cont) (table_of B) f ((table_of B).named id) id (paper n p tx w li)) (eq-eqb id cont e))
 
@@ -169,23 +171,23 @@ module _ (b : TypeTable) (s : List ℕ) (lent : Lent) (why : ℕ → Entry) (n :
           named_is f e = comp_at k ek g ∙ ap (λ (f : Bool). mention (mach_n b B lent why cont) (table_of B) f ((table_of B).named id) id (paper n p tx w li)) (ne_eqb id cont ne)
               ∙ ap (λ (f : Bool). mention (mach_n b B lent why cont) (table_of B) false f id (paper n p tx w li)) (named_at b s w id t et ∙ sym en ∙ e)
 
-          pub again_nameless : nm ≡ false → (r : Pen) → put_out r.at tx ≡ put_text tx p.at (cut [] 13) → Again (noted_out n r tx w li)
+          pub again_nameless : nm ≡ false → Again (noted_out n (Err Cycle) tx w li)
           unfolding again_n mention
-          again_nameless e r er = stop_sheet n p tx w li 13 r (λ m. again_n b B lent why cont m id) er (λ _. named_is false e)
+          again_nameless e = stop_sheet n p tx w li Cycle (λ m. again_n b B lent why cont m id) (named_is false e)
 
-          pub again_named : nm ≡ true → (z : Entry) → z ≡ entry id 2 cont → (x : Out (Noted Sheet)) → x ≡ obind (noted_out n p tx w li) (λ m. once_n b B lent (type_of b s t) z (has_n b B lent m id) m id) → Again x
+          pub again_named : nm ≡ true → (z : Entry) → z ≡ entry id 2 cont → (x : Out (Noted Sheet)) → x ≡ obind (noted_out n (Ok p) tx w li) (λ m. once_n b B lent (type_of b s t) z (has_n b B lent m id) m id) → Again x
           unfolding again_n mention has_n
-          again_named e z ez x ex = ex ∙ ap (λ (y : Entry). obind (noted_out n p tx w li) (λ m. once_n b B lent (type_of b s t) y (has_n b B lent m id) m id)) ez ∙ at_sheet n p tx w li (λ m. once_n b B lent (type_of b s t) (entry id 2 cont) (has_n b B lent m id) m id) (λ m. again_n b B lent why cont m id)
-              (λ _. once_fwd b B lent why cont (type_of b s t) (paper n p tx w li) id ((mach_n b B lent why cont).has_fwd (paper n p tx w li) id) (sym (type_at b s w id t et))
+          again_named e z ez x ex = ex ∙ ap (λ (y : Entry). obind (noted_out n (Ok p) tx w li) (λ m. once_n b B lent (type_of b s t) y (has_n b B lent m id) m id)) ez ∙ at_pen n p tx w li (λ m. once_n b B lent (type_of b s t) (entry id 2 cont) (has_n b B lent m id) m id) (λ m. again_n b B lent why cont m id)
+              (once_fwd b B lent why cont (type_of b s t) (paper n p tx w li) id ((mach_n b B lent why cont).has_fwd (paper n p tx w li) id) (sym (type_at b s w id t et))
               ∙ ap (λ (f : Bool). once (mach_n b B lent why cont) (table_of B) (mach_n b B lent why cont).fwd_line id f (paper n p tx w li)) (fwd_is ∙ hf) ∙ sym (named_is true e))
 
-        pub again_typedef : k ≡ kinds.Typedef → (e : Entry) → e ≡ cause_at 3 (why id) id cont → (x : Out (Noted Sheet)) → x ≡ obind (noted_out n p tx w li) (λ m. once_n b B lent (type_of b s t) e (has_n b B lent m id) m id) → Again x
+        pub again_typedef : k ≡ kinds.Typedef → (e : Entry) → e ≡ cause_at 3 (why id) id cont → (x : Out (Noted Sheet)) → x ≡ obind (noted_out n (Ok p) tx w li) (λ m. once_n b B lent (type_of b s t) e (has_n b B lent m id) m id) → Again x
         unfolding again_n again has_n
-        again_typedef k8 e ee x ex = ex ∙ at_sheet n p tx w li (λ m. once_n b B lent (type_of b s t) e (has_n b B lent m id) m id) (λ m. again_n b B lent why cont m id)
-            (λ _. once_alias b B lent why cont (type_of b s t) e (paper n p tx w li) id ee ((mach_n b B lent why cont).has_fwd (paper n p tx w li) id) (sym (type_at b s w id t et))
+        again_typedef k8 e ee x ex = ex ∙ at_pen n p tx w li (λ m. once_n b B lent (type_of b s t) e (has_n b B lent m id) m id) (λ m. again_n b B lent why cont m id)
+            (once_alias b B lent why cont (type_of b s t) e (paper n p tx w li) id ee ((mach_n b B lent why cont).has_fwd (paper n p tx w li) id) (sym (type_at b s w id t et))
             ∙ sym (kind_node k ek kinds.Typedef k8))
 
-        pub again_other : (k ≡ kinds.Struct → ⊥) → (k ≡ kinds.Union → ⊥) → (k ≡ kinds.Typedef → ⊥) → Again (noted_out n p tx w li)
+        pub again_other : (k ≡ kinds.Struct → ⊥) → (k ≡ kinds.Union → ⊥) → (k ≡ kinds.Typedef → ⊥) → Again (noted_out n (Ok p) tx w li)
         unfolding again_n
         again_other n₁ n₂ n₃ = same_sheet n p tx w li (λ m. again_n b B lent why cont m id) (kind_node k ek k refl ∙ again_kind b s B lent why (paper n p tx w li) id cont t k n₁ n₂ n₃)
 
@@ -217,18 +219,15 @@ pub state_other : (k : ℕ) → (k ≡ 2 → ⊥) → (k ≡ 1 → ⊥) → NotE
 unfolding emit_state_of
 state_other k n m = rw (ne_eqb k 2 n, emit_state_of, ne_eqb k 1 m)
 
-pub two_emitted : emit_state_of 2 ≡ Emitted
+-- the test that an id's state is "emitted"
+pub emitted_is : (k : ℕ) (s : EmitState) → s ≡ emit_state_of k → (r : Bool) → r ≡ sameb the_type s Emitted → r ≡ eqb k 2
 unfolding emit_state_of
-two_emitted = refl
-
-pub emitted_is : (k : ℕ) → emit_state_of k ≡ Emitted → k ≡ 2
-unfolding emit_state_of
-emitted_is k e = go (eqb k 2) (eqb k 1) refl e
+emitted_is k s es r er = er ∙ ap (λ (z : EmitState). sameb the_type z Emitted) es ∙ go (eqb k 2) (eqb k 1)
   where
-    go : (x y : Bool) → eqb k 2 ≡ x → ◌≡◌ {A = EmitState} (elim x as (λ z. EmitState) [ true ↦ Emitted | false ↦ elim y as (λ z. EmitState) [ true ↦ Emitting | false ↦ NotEmitted ] ]) Emitted → k ≡ 2
-    go true y q h = eqb-true k 2 q
-    go false true q h = absurd (cc)
-    go false false q h = absurd (cc)
+    go : (x y : Bool) → sameb the_type (elim x as (λ z. EmitState) [ true ↦ Emitted | false ↦ elim y as (λ z. EmitState) [ true ↦ Emitting | false ↦ NotEmitted ] ]) Emitted ≡ x
+    go true y = refl
+    go false true = refl
+    go false false = refl
 
 -- ---- emit_type
 pub zero_is : (c : ℕ) → is_zero c ≡ eqb c 0
@@ -243,11 +242,11 @@ module _ (b : TypeTable) (s : List ℕ) (lent : Lent) (why : ℕ → Entry) (n :
   em k m y c = emit_n b Bt lent why k c m y
 
   abbrev Emits : Out (Noted Sheet) → Type 0
-  Emits x = x ≡ obind (noted_out n p tx w li) (λ m. emit_n b Bt lent why left cont m id)
+  Emits x = x ≡ obind (noted_out n (Ok p) tx w li) (λ m. emit_n b Bt lent why left cont m id)
 
-  pub too_deep : left ≡ 0 → (r : Pen) → put_out r.at tx ≡ put_text tx p.at (cut [] 12) → Emits (noted_out n r tx w li)
+  pub too_deep : left ≡ 0 → Emits (noted_out n (Err TooDeep) tx w li)
   unfolding emit_n
-  too_deep e r er = stop_sheet n p tx w li 12 r (λ m. emit_n b Bt lent why left cont m id) er (λ _. ap (λ (l : ℕ). em l (paper n p tx w li) id cont) e)
+  too_deep e = stop_sheet n p tx w li TooDeep (λ m. emit_n b Bt lent why left cont m id) (ap (λ (l : ℕ). em l (paper n p tx w li) id cont) e)
 
   module _ (nz : left ≡ 0 → ⊥) (st : EmitState) (es : st ≡ emit_state_of (get_field w id 13)) where
     unroll : (k : EmitState) → st ≡ k → em left (paper n p tx w li) id cont ≡ look (mach_n b Bt lent why cont) (table_of Bt) (λ m' y c. em (left - 1) m' y c) (paper n p tx w li) id cont (mark_as k)
@@ -257,13 +256,13 @@ module _ (b : TypeTable) (s : List ℕ) (lent : Lent) (why : ℕ → Entry) (n :
         ap (λ (i : ℕ). em i (paper n p tx w li) id cont) l
         ∙ ap (look (mach_n b Bt lent why cont) (table_of Bt) (λ m' y c. em (left - 1) m' y c) (paper n p tx w li) id cont) (marked (get_field w id 13) ∙ ap mark_as (sym es ∙ e))
 
-    pub emit_done : st ≡ Emitted → Emits (noted_out n p tx w li)
+    pub emit_done : st ≡ Emitted → Emits (noted_out n (Ok p) tx w li)
     unfolding emit_n look mark_as
     emit_done e = same_sheet n p tx w li (λ m. emit_n b Bt lent why left cont m id) (unroll Emitted e)
 
-    pub emit_busy : st ≡ Emitting → (x : Out (Noted Sheet)) → x ≡ obind (noted_out n p tx w li) (λ m. again_n b Bt lent why cont m id) → Emits x
+    pub emit_busy : st ≡ Emitting → (x : Out (Noted Sheet)) → x ≡ obind (noted_out n (Ok p) tx w li) (λ m. again_n b Bt lent why cont m id) → Emits x
     unfolding emit_n look again_n mark_as
-    emit_busy e x ex = ex ∙ at_sheet n p tx w li (λ m. again_n b Bt lent why cont m id) (λ m. emit_n b Bt lent why left cont m id) (λ _. sym (unroll Emitting e))
+    emit_busy e x ex = ex ∙ at_pen n p tx w li (λ m. again_n b Bt lent why cont m id) (λ m. emit_n b Bt lent why left cont m id) (sym (unroll Emitting e))
 
     module _ (ne : st ≡ NotEmitted) (t : Record) (et : t ≡ record_by_id b s w id) (nm : Bool) (en : nm ≡ is_named (type_of b s t)) where
       gate_is : (f : Bool) → (eqb cont 0 && not nm) ≡ f → em left (paper n p tx w li) id cont ≡ allowed (mach_n b Bt lent why cont) (table_of Bt) (λ m' y c. em (left - 1) m' y c) (paper n p tx w li) id cont f
@@ -273,16 +272,16 @@ module _ (b : TypeTable) (s : List ℕ) (lent : Lent) (why : ℕ → Entry) (n :
           ∙ ap (λ (g : Bool). allowed (mach_n b Bt lent why cont) (table_of Bt) (λ m' y c. em (left - 1) m' y c) (paper n p tx w li) id cont (eqb cont 0 && not g)) (named_at b s w id t et ∙ sym en)
           ∙ ap (allowed (mach_n b Bt lent why cont) (table_of Bt) (λ m' y c. em (left - 1) m' y c) (paper n p tx w li) id cont) e
 
-      pub emit_nameless : (eqb cont 0 && not nm) ≡ true → (r : Pen) → put_out r.at tx ≡ put_text tx p.at (cut [] 14) → Emits (noted_out n r tx w li)
+      pub emit_nameless : (eqb cont 0 && not nm) ≡ true → Emits (noted_out n (Err NamelessTypedef) tx w li)
       unfolding emit_n allowed
-      emit_nameless e r er = stop_sheet n p tx w li 14 r (λ m. emit_n b Bt lent why left cont m id) er (λ _. gate_is true e)
+      emit_nameless e = stop_sheet n p tx w li NamelessTypedef (λ m. emit_n b Bt lent why left cont m id) (gate_is true e)
 
-      pub emit_fresh : (eqb cont 0 && not nm) ≡ false → (x : Out (Noted Sheet)) → x ≡ obind (noted_out n p tx w li) (λ m. new_n b Bt lent why (left - 1) cont m id) → Emits x
+      pub emit_fresh : (eqb cont 0 && not nm) ≡ false → (x : Out (Noted Sheet)) → x ≡ obind (noted_out n (Ok p) tx w li) (λ m. new_n b Bt lent why (left - 1) cont m id) → Emits x
       unfolding emit_n allowed new_n
-      emit_fresh e x ex = ex ∙ at_sheet n p tx w li (λ m. new_n b Bt lent why (left - 1) cont m id) (λ m. emit_n b Bt lent why left cont m id) (λ _. sym (gate_is false e))
+      emit_fresh e x ex = ex ∙ at_pen n p tx w li (λ m. new_n b Bt lent why (left - 1) cont m id) (λ m. emit_n b Bt lent why left cont m id) (sym (gate_is false e))
 
   -- what is_done tells
-  pub emit_skips : (f : Bool) → f ≡ (not (eqb left 0) && eqb (get_field w id 13) 2) → f ≡ true → Emits (noted_out n p tx w li)
+  pub emit_skips : (f : Bool) → f ≡ (not (eqb left 0) && eqb (get_field w id 13) 2) → f ≡ true → Emits (noted_out n (Ok p) tx w li)
   emit_skips f e t = emit_done (eqb-false left 0 (first (eqb left 0) (eqb (get_field w id 13) 2) (sym e ∙ t))) _ refl (sym (state_2 (get_field w id 13) (eqb-true (get_field w id 13) 2 (second (eqb left 0) (eqb (get_field w id 13) 2) (sym e ∙ t)))))
     where
       first : (x y : Bool) → (not x && y) ≡ true → x ≡ false
@@ -301,38 +300,38 @@ module _ (b : TypeTable) (s : List ℕ) (lent : Lent) (why : ℕ → Entry) (n :
   shown_is : (f : Bool) → (is_fwd || eqb cont 0) ≡ f → f ≡ (is_fwd || is_zero cont)
   shown_is f e = sym (ap (λ (g : Bool). is_fwd || g) (zero_is cont) ∙ e)
 
-  pub leaf_shown : (is_fwd || eqb cont 0) ≡ true → (e : Entry) → e ≡ cause_at 2 (why id) id cont → (a : Pen) (t₁ w₁ l₁ w₂ : List ℕ)
-      → noted_out n a t₁ w₁ l₁ ≡ obind (noted_out n p tx w li) (λ m. line_n lent true e (definition_once (work_asks b.types (btf_of b s w)) (work_naming b) (btf_of b s w) id (type_of b s t)) m) → w₂ ≡ put_field w₁ id 13 2 → noted_out n a t₁ w₂ l₁ ≡ obind (noted_out n p tx w li) Leaf
+  pub leaf_shown : (is_fwd || eqb cont 0) ≡ true → (e : Entry) → e ≡ cause_at 2 (why id) id cont → (y : Out (Noted Sheet))
+      → y ≡ obind (noted_out n (Ok p) tx w li) (λ m. line_n lent true e (definition_once (work_asks b.types (btf_of b s w)) (work_naming b) (btf_of b s w) id (type_of b s t)) m)
+      → (x : Out (Noted Sheet)) → x ≡ obind y (λ m. wrote (state_n id 2 m)) → x ≡ obind (noted_out n (Ok p) tx w li) Leaf
   unfolding leaf_n leaf work_machine line_n
-  leaf_shown f e ee a t₁ w₁ l₁ w₂ el ew =
-      then (noted_out n p tx w li) (λ m. line_n lent true e (definition_once (work_asks b.types (btf_of b s w)) (work_naming b) (btf_of b s w) id (type_of b s t)) m) (λ m. wrote (with_n m (put_field m.mach.work id 13 2))) (noted_out n a t₁ w₁ l₁) (noted_out n a t₁ w₂ l₁)
-      el (work_last n a t₁ w₁ l₁ (λ u. put_field u id 13 2) w₂ ew)
-      ∙ obind_same (noted_out n p tx w li) (λ m. obind (line_n lent true e (definition_once (work_asks b.types (btf_of b s w)) (work_naming b) (btf_of b s w) id (type_of b s t)) m) (λ m'. wrote (with_n m' (put_field m'.mach.work id 13 2)))) Leaf
+  leaf_shown f e ee y ey x ex =
+      then (noted_out n (Ok p) tx w li) (λ m. line_n lent true e (definition_once (work_asks b.types (btf_of b s w)) (work_naming b) (btf_of b s w) id (type_of b s t)) m) (λ m. wrote (state_n id 2 m)) y x ey ex
+      ∙ obind_same (noted_out n (Ok p) tx w li) (λ m. obind (line_n lent true e (definition_once (work_asks b.types (btf_of b s w)) (work_naming b) (btf_of b s w) id (type_of b s t)) m) (λ m'. wrote (with_n m' (put_field m'.mach.work id 13 2)))) Leaf
       (λ m. ap (λ (y : BtfType). obind (line_n lent true e (definition_once (work_asks b.types (btf_of b s w)) (work_naming b) (btf_of b s w) id y) m) (λ m'. wrote (with_n m' (put_field m'.mach.work id 13 2)))) (sym (type_at b s w id t et))
       ∙ ap (λ (z : Entry). obind (line_n lent true z (definition_once (work_asks b.types (btf_of b s w)) (work_naming b) (btf_of b s w) id ((btf_of b s w).type_by_id id)) m) (λ m'. wrote (with_n m' (put_field m'.mach.work id 13 2)))) ee
       ∙ ap (λ (g : Bool). leaf (mach_n b (btf_of b s w) lent why cont) (table_of (btf_of b s w)) g id m) (shown_is true f))
 
-  pub leaf_quiet : (is_fwd || eqb cont 0) ≡ false → (w₂ : List ℕ) → w₂ ≡ put_field w id 13 2 → noted_out n p tx w₂ li ≡ obind (noted_out n p tx w li) Leaf
+  pub leaf_quiet : (is_fwd || eqb cont 0) ≡ false → (w₂ : List ℕ) → w₂ ≡ put_field w id 13 2 → noted_out n (Ok p) tx w₂ li ≡ obind (noted_out n (Ok p) tx w li) Leaf
   unfolding leaf_n leaf work_machine
   leaf_quiet f w₂ ew =
-      work_last n p tx w li (λ u. put_field u id 13 2) w₂ ew
-      ∙ obind_same (noted_out n p tx w li) (λ m. wrote (with_n m (put_field m.mach.work id 13 2))) Leaf (λ m. ap (λ (g : Bool). leaf (mach_n b (btf_of b s w) lent why cont) (table_of (btf_of b s w)) g id m) (shown_is false f))
+      work_last n (Ok p) tx w li (λ u. put_field u id 13 2) w₂ ew
+      ∙ obind_same (noted_out n (Ok p) tx w li) (λ m. wrote (with_n m (put_field m.mach.work id 13 2))) Leaf (λ m. ap (λ (g : Bool). leaf (mach_n b (btf_of b s w) lent why cont) (table_of (btf_of b s w)) g id m) (shown_is false f))
 
 -- ---- emit_entries, emit_ordered: what is left is the whole
-pub record Rest (b : TypeTable) (s : List ℕ) (lent : Lent) (why : ℕ → Entry) (w₀ : List ℕ) (left cont : ℕ) (id : ℕ → ℕ) (n : ℕ) (p₀ : Pen) (tx₀ l₀ : List ℕ) (vlen : ℕ) (p : Pen) (tx w li : List ℕ) (k : ℕ) : Type 0 where
-  pub whole : obind (noted_out n p₀ tx₀ w₀ l₀) (λ m. eeach (emit_n b (btf_of b s w₀) lent why left cont) (from id 0 vlen) m) ≡ obind (noted_out n p tx w li) (λ m. eeach (emit_n b (btf_of b s w₀) lent why left cont) (from id k (vlen - k)) m)
+pub record Rest (b : TypeTable) (s : List ℕ) (lent : Lent) (why : ℕ → Entry) (w₀ : List ℕ) (left cont : ℕ) (id : ℕ → ℕ) (n : ℕ) (p₀ : Pen) (tx₀ l₀ : List ℕ) (vlen : ℕ) (p : Penned) (tx w li : List ℕ) (k : ℕ) : Type 0 where
+  pub whole : obind (noted_out n (Ok p₀) tx₀ w₀ l₀) (λ m. eeach (emit_n b (btf_of b s w₀) lent why left cont) (from id 0 vlen) m) ≡ obind (noted_out n p tx w li) (λ m. eeach (emit_n b (btf_of b s w₀) lent why left cont) (from id k (vlen - k)) m)
   pub table : Stays (btf_of b s) w₀ (noted_out n p tx w li)
 
 module _ (b : TypeTable) (s : List ℕ) (lent : Lent) (why : ℕ → Entry) (w₀ : List ℕ) (left cont : ℕ) (id : ℕ → ℕ) (n : ℕ) (p₀ : Pen) (tx₀ l₀ : List ℕ) (vlen : ℕ) where
-  pub rest_start : Rest b s lent why w₀ left cont id n p₀ tx₀ l₀ vlen p₀ tx₀ w₀ l₀ 0
-  rest_start = record { whole = (let d : vlen ≡ vlen - 0 = omega arith in ap (λ (i : ℕ). obind (noted_out n p₀ tx₀ w₀ l₀) (λ m. eeach (emit_n b (btf_of b s w₀) lent why left cont) (from id 0 i) m)) d); table = entry_stays b s (btf_of b s) n p₀ tx₀ w₀ l₀ }
+  pub rest_start : Rest b s lent why w₀ left cont id n p₀ tx₀ l₀ vlen (Ok p₀) tx₀ w₀ l₀ 0
+  rest_start = record { whole = (let d : vlen ≡ vlen - 0 = omega arith in ap (λ (i : ℕ). obind (noted_out n (Ok p₀) tx₀ w₀ l₀) (λ m. eeach (emit_n b (btf_of b s w₀) lent why left cont) (from id 0 i) m)) d); table = entry_stays b s (btf_of b s) n p₀ tx₀ w₀ l₀ }
 
-  module _ (p : Pen) (tx w li : List ℕ) (k : ℕ) (inv : Rest b s lent why w₀ left cont id n p₀ tx₀ l₀ vlen p tx w li k) where
-    module _ (y : ℕ) (ey : p.at ≤ length tx → y ≡ id k) (lent₁ : Lent) (er : lent₁ ≡ lent) (q : Pen) (tx₁ w₁ l₁ : List ℕ) (e : noted_out n q tx₁ w₁ l₁ ≡ obind (noted_out n p tx w li) (λ m. emit_n b (btf_of b s w) lent₁ why left cont m y)) where
+  module _ (p : Pen) (tx w li : List ℕ) (k : ℕ) (inv : Rest b s lent why w₀ left cont id n p₀ tx₀ l₀ vlen (Ok p) tx w li k) where
+    module _ (y : ℕ) (ey : y ≡ id k) (lent₁ : Lent) (er : lent₁ ≡ lent) (q : Penned) (tx₁ w₁ l₁ : List ℕ) (e : noted_out n q tx₁ w₁ l₁ ≡ obind (noted_out n (Ok p) tx w li) (λ m. emit_n b (btf_of b s w) lent₁ why left cont m y)) where
       -- the call, by the table at the start
-      call₀ : noted_out n q tx₁ w₁ l₁ ≡ obind (noted_out n p tx w li) (λ m. emit_n b (btf_of b s w₀) lent why left cont m (id k))
-      call₀ = e ∙ ap (λ (r : Lent). obind (noted_out n p tx w li) (λ m. emit_n b (btf_of b s w) r why left cont m y)) er ∙ same_table b s n p tx w li w₀ (λ Q m. emit_n b Q lent why left cont m y) inv.table
-          ∙ at_sheet n p tx w li (λ m. emit_n b (btf_of b s w₀) lent why left cont m y) (λ m. emit_n b (btf_of b s w₀) lent why left cont m (id k)) (λ h. ap (emit_n b (btf_of b s w₀) lent why left cont (paper n p tx w li)) (ey h))
+      call₀ : noted_out n q tx₁ w₁ l₁ ≡ obind (noted_out n (Ok p) tx w li) (λ m. emit_n b (btf_of b s w₀) lent why left cont m (id k))
+      call₀ = e ∙ ap (λ (r : Lent). obind (noted_out n (Ok p) tx w li) (λ m. emit_n b (btf_of b s w) r why left cont m y)) er ∙ same_table b s n (Ok p) tx w li w₀ (λ Q m. emit_n b Q lent why left cont m y) inv.table
+          ∙ ap (λ (x : ℕ). obind (noted_out n (Ok p) tx w li) (λ m. emit_n b (btf_of b s w₀) lent why left cont m x)) ey
 
       pub rest_turn : k < vlen → Rest b s lent why w₀ left cont id n p₀ tx₀ l₀ vlen q tx₁ w₁ l₁ (k + 1)
       unfolding from eeach emit_n
@@ -340,17 +339,22 @@ module _ (b : TypeTable) (s : List ℕ) (lent : Lent) (why : ℕ → Entry) (w�
         whole = (
             let d : vlen - k ≡ suc (vlen - (k + 1)) = omega arith in
             inv.whole
-            ∙ ap (λ (i : ℕ). obind (noted_out n p tx w li) (λ m. eeach (emit_n b (btf_of b s w₀) lent why left cont) (from id k i) m)) d
-            ∙ sym (obind_then (noted_out n p tx w li) (λ m. emit_n b (btf_of b s w₀) lent why left cont m (id k)) (λ m. eeach (emit_n b (btf_of b s w₀) lent why left cont) (from id (k + 1) (vlen - (k + 1))) m))
+            ∙ ap (λ (i : ℕ). obind (noted_out n (Ok p) tx w li) (λ m. eeach (emit_n b (btf_of b s w₀) lent why left cont) (from id k i) m)) d
+            ∙ sym (obind_then (noted_out n (Ok p) tx w li) (λ m. emit_n b (btf_of b s w₀) lent why left cont m (id k)) (λ m. eeach (emit_n b (btf_of b s w₀) lent why left cont) (from id (k + 1) (vlen - (k + 1))) m))
             ∙ ap (λ (o : Out (Noted Sheet)). obind o (λ m. eeach (emit_n b (btf_of b s w₀) lent why left cont) (from id (k + 1) (vlen - (k + 1))) m)) (sym call₀)
             );
-        table = subst (Stays (btf_of b s) w₀) (sym call₀) (stays_then (btf_of b s) w₀ (noted_out n p tx w li) (λ m. emit_n b (btf_of b s w₀) lent why left cont m (id k)) inv.table (λ m. table_emit b s (btf_of b s w₀) lent why left m (id k) cont));
+        table = subst (Stays (btf_of b s) w₀) (sym call₀) (stays_then (btf_of b s) w₀ (noted_out n (Ok p) tx w li) (λ m. emit_n b (btf_of b s w₀) lent why left cont m (id k)) inv.table (λ m. table_emit b s (btf_of b s w₀) lent why left m (id k) cont));
       }
 
     -- an id that is_done passes over
-    pub rest_skip : (y : ℕ) → (p.at ≤ length tx → y ≡ id k) → (f : Bool) → f ≡ (not (eqb left 0) && eqb (get_field w y 13) 2) → f ≡ true → k < vlen → Rest b s lent why w₀ left cont id n p₀ tx₀ l₀ vlen p tx w li (k + 1)
-    rest_skip y ey f e t h = rest_turn y ey lent refl p tx w li (emit_skips b s lent why n p tx w li y cont left f e t) h
+    pub rest_skip : (y : ℕ) → y ≡ id k → (f : Bool) → f ≡ (not (eqb left 0) && eqb (get_field w y 13) 2) → f ≡ true → k < vlen → Rest b s lent why w₀ left cont id n p₀ tx₀ l₀ vlen (Ok p) tx w li (k + 1)
+    rest_skip y ey f e t h = rest_turn y ey lent refl (Ok p) tx w li (emit_skips b s lent why n p tx w li y cont left f e t) h
 
-    pub rest_end : vlen ≤ k → noted_out n p tx w li ≡ obind (noted_out n p₀ tx₀ w₀ l₀) (λ m. eeach (emit_n b (btf_of b s w₀) lent why left cont) (from id 0 vlen) m)
+    pub rest_end : vlen ≤ k → noted_out n (Ok p) tx w li ≡ obind (noted_out n (Ok p₀) tx₀ w₀ l₀) (λ m. eeach (emit_n b (btf_of b s w₀) lent why left cont) (from id 0 vlen) m)
     unfolding from eeach
-    rest_end h = let d : vlen - k ≡ 0 = omega arith in sym (inv.whole ∙ ap (λ (i : ℕ). obind (noted_out n p tx w li) (λ m. eeach (emit_n b (btf_of b s w₀) lent why left cont) (from id k i) m)) d ∙ obind_wrote (noted_out n p tx w li))
+    rest_end h = let d : vlen - k ≡ 0 = omega arith in sym (inv.whole ∙ ap (λ (i : ℕ). obind (noted_out n (Ok p) tx w li) (λ m. eeach (emit_n b (btf_of b s w₀) lent why left cont) (from id k i) m)) d ∙ obind_wrote (noted_out n (Ok p) tx w li))
+
+  -- an id that was refused, so that what `?` hands on is the whole
+  pub rest_halts : (c : Refusal) (tx w li : List ℕ) (k : ℕ) → Rest b s lent why w₀ left cont id n p₀ tx₀ l₀ vlen (Err c) tx w li k → (r : Penned) → IsErrAnd r (λ e. e ≡ c)
+      → noted_out n r tx w li ≡ obind (noted_out n (Ok p₀) tx₀ w₀ l₀) (λ m. eeach (emit_n b (btf_of b s w₀) lent why left cont) (from id 0 vlen) m)
+  rest_halts c tx w li k inv r e = ended n tx w li c r (λ m. eeach (emit_n b (btf_of b s w₀) lent why left cont) (from id k (vlen - k)) m) e ∙ sym inv.whole

@@ -5,6 +5,7 @@ use mathlib.Core.List.{List}
 use mathlib.Core.Bool.{Bool, true}
 use lib.Dec.{eqb}
 use borrow.Author.Tests.{eq-eqb, ne_eqb}
+use Rattle.std.specs.Prelude.{Ok}
 use Rattle.spec_c_dumper.specs.rules.Machine.{Out, wrote, obind}
 use Rattle.spec_c_dumper.specs.rules.Types.{BtfType, Btf as Rules}
 use Rattle.spec_c_dumper.specs.alignment_once.Writers.{definition_once}
@@ -20,36 +21,36 @@ use Rattle.c_dumper_emit.specs.entries.Noted.{Lent, noted_out, line_n, has_n, on
 use Rattle.c_dumper_emit.proofs.entries.Laws.{then, work_sheet, work_last}
 
 module _ (b : TypeTable) (B : Rules) (lent : Lent) (ty : BtfType) (n : ℕ) (p : Pen) (tx w li : List ℕ) (id : ℕ) where
-  pub typedef_ends : (e f : Entry) → f ≡ e → (a : Pen) (t₁ w₁ l₁ : List ℕ) → noted_out n a t₁ w₁ l₁ ≡ obind (noted_out n p tx w li) (λ m. once_n b B lent ty f (has_n b B lent m id) m id)
-      → (w₂ : List ℕ) → w₂ ≡ put_field w₁ id 13 2 → noted_out n a t₁ w₂ l₁ ≡ obind (noted_out n p tx w li) (λ m. typedef_n b B lent ty e m id)
+  pub typedef_ends : (e f : Entry) → f ≡ e → (y : Out (Noted Sheet)) → y ≡ obind (noted_out n (Ok p) tx w li) (λ m. once_n b B lent ty f (has_n b B lent m id) m id)
+      → (x : Out (Noted Sheet)) → x ≡ obind y (λ m. wrote (state_n id 2 m)) → x ≡ obind (noted_out n (Ok p) tx w li) (λ m. typedef_n b B lent ty e m id)
   unfolding typedef_n
-  typedef_ends e f ef a t₁ w₁ l₁ e₁ w₂ e₂ =
-      then (noted_out n p tx w li) (λ m. once_n b B lent ty f (has_n b B lent m id) m id) (λ m. wrote (state_n id 2 m)) (noted_out n a t₁ w₁ l₁) (noted_out n a t₁ w₂ l₁) e₁ (work_last n a t₁ w₁ l₁ (λ u. put_field u id 13 2) w₂ e₂)
-      ∙ ap (λ (g : Entry). obind (noted_out n p tx w li) (λ m. typedef_n b B lent ty g m id)) ef
+  typedef_ends e f ef y ey x ex =
+      then (noted_out n (Ok p) tx w li) (λ m. once_n b B lent ty f (has_n b B lent m id) m id) (λ m. wrote (state_n id 2 m)) y x ey ex
+      ∙ ap (λ (g : Entry). obind (noted_out n (Ok p) tx w li) (λ m. typedef_n b B lent ty g m id)) ef
 
   module _ (cont : ℕ) (e : Entry) where
     abbrev Ends : Out (Noted Sheet) → Type 0
-    Ends x = x ≡ obind (noted_out n p tx w li) (λ m. ended_n b B lent (eqb cont 0) ty e m id)
+    Ends x = x ≡ obind (noted_out n (Ok p) tx w li) (λ m. ended_n b B lent (eqb cont 0) ty e m id)
 
-    pub ends_within : (cont ≡ 0 → ⊥) → (w₁ : List ℕ) → w₁ ≡ put_field w id 13 0 → Ends (noted_out n p tx w₁ li)
+    pub ends_within : (cont ≡ 0 → ⊥) → (w₁ : List ℕ) → w₁ ≡ put_field w id 13 0 → Ends (noted_out n (Ok p) tx w₁ li)
     unfolding ended_n
-    ends_within z w₁ e₁ = work_last n p tx w li (λ u. put_field u id 13 0) w₁ e₁
-        ∙ ap (λ (f : Bool). obind (noted_out n p tx w li) (λ m. ended_n b B lent f ty e m id)) (sym (ne_eqb cont 0 z))
+    ends_within z w₁ e₁ = work_last n (Ok p) tx w li (λ u. put_field u id 13 0) w₁ e₁
+        ∙ ap (λ (f : Bool). obind (noted_out n (Ok p) tx w li) (λ m. ended_n b B lent f ty e m id)) (sym (ne_eqb cont 0 z))
 
-    pub ends_top : cont ≡ 0 → (f : Entry) → f ≡ e → (a : Pen) (t₁ w₁ l₁ : List ℕ) → noted_out n a t₁ w₁ l₁ ≡ obind (noted_out n p tx w li) (λ m. line_n lent true f (definition_once (work_asks b.types B) (work_naming b) B id ty) m)
-        → (w₂ : List ℕ) → w₂ ≡ put_field w₁ id 13 2 → Ends (noted_out n a t₁ w₂ l₁)
+    pub ends_top : cont ≡ 0 → (f : Entry) → f ≡ e → (y : Out (Noted Sheet)) → y ≡ obind (noted_out n (Ok p) tx w li) (λ m. line_n lent true f (definition_once (work_asks b.types B) (work_naming b) B id ty) m)
+        → (x : Out (Noted Sheet)) → x ≡ obind y (λ m. wrote (state_n id 2 m)) → Ends x
     unfolding ended_n
-    ends_top z f ef a t₁ w₁ l₁ e₁ w₂ e₂ =
-        then (noted_out n p tx w li) (λ m. line_n lent true f (definition_once (work_asks b.types B) (work_naming b) B id ty) m) (λ m. wrote (state_n id 2 m)) (noted_out n a t₁ w₁ l₁) (noted_out n a t₁ w₂ l₁) e₁ (work_last n a t₁ w₁ l₁ (λ u. put_field u id 13 2) w₂ e₂)
-        ∙ ap (λ (g : Entry). obind (noted_out n p tx w li) (λ m. ended_n b B lent true ty g m id)) ef
-        ∙ ap (λ (f : Bool). obind (noted_out n p tx w li) (λ m. ended_n b B lent f ty e m id)) (sym (eq-eqb cont 0 z))
+    ends_top z f ef y ey x ex =
+        then (noted_out n (Ok p) tx w li) (λ m. line_n lent true f (definition_once (work_asks b.types B) (work_naming b) B id ty) m) (λ m. wrote (state_n id 2 m)) y x ey ex
+        ∙ ap (λ (g : Entry). obind (noted_out n (Ok p) tx w li) (λ m. ended_n b B lent true ty g m id)) ef
+        ∙ ap (λ (f : Bool). obind (noted_out n (Ok p) tx w li) (λ m. ended_n b B lent f ty e m id)) (sym (eq-eqb cont 0 z))
 
 module _ (b : TypeTable) (s : List ℕ) (lent : Lent) (ty : BtfType) (n : ℕ) (p : Pen) (tx w li : List ℕ) (id cont : ℕ) where
-  pub mentioned : (w₁ : List ℕ) → w₁ ≡ put_field w id 13 1 → (a : Pen) (t₂ w₂ l₂ : List ℕ) → noted_out n a t₂ w₂ l₂ ≡ obind (noted_out n p tx w₁ li) (λ m. mention_n b (btf_of b s w₁) lent ty cont m id)
-      → (w₃ : List ℕ) → w₃ ≡ put_field w₂ id 13 0 → noted_out n a t₂ w₃ l₂ ≡ obind (noted_out n p tx w li) (λ m. mentioned_n b (btf_of b s w) lent ty cont m id)
+  pub mentioned : (w₁ : List ℕ) → w₁ ≡ put_field w id 13 1 → (y : Out (Noted Sheet)) → y ≡ obind (noted_out n (Ok p) tx w₁ li) (λ m. mention_n b (btf_of b s w₁) lent ty cont m id)
+      → (x : Out (Noted Sheet)) → x ≡ obind y (λ m. wrote (state_n id 0 m)) → x ≡ obind (noted_out n (Ok p) tx w li) (λ m. mentioned_n b (btf_of b s w) lent ty cont m id)
   unfolding mentioned_n
-  mentioned w₁ e₁ a t₂ w₂ l₂ e₂ w₃ e₃ =
-      then (noted_out n p tx w li) (λ m. mention_n b (btf_of b s w) lent ty cont (state_n id 1 m) id) (λ m. wrote (state_n id 0 m)) (noted_out n a t₂ w₂ l₂) (noted_out n a t₂ w₃ l₂)
-      (e₂ ∙ ap (λ (Q : Rules). obind (noted_out n p tx w₁ li) (λ m. mention_n b Q lent ty cont m id)) (ap (btf_of b s) e₁ ∙ table_emark b s w id 1)
-      ∙ work_sheet n p tx w li (λ u. put_field u id 13 1) w₁ (λ m. mention_n b (btf_of b s w) lent ty cont m id) e₁)
-      (work_last n a t₂ w₂ l₂ (λ u. put_field u id 13 0) w₃ e₃)
+  mentioned w₁ e₁ y ey x ex =
+      then (noted_out n (Ok p) tx w li) (λ m. mention_n b (btf_of b s w) lent ty cont (state_n id 1 m) id) (λ m. wrote (state_n id 0 m)) y x
+      (ey ∙ ap (λ (Q : Rules). obind (noted_out n (Ok p) tx w₁ li) (λ m. mention_n b Q lent ty cont m id)) (ap (btf_of b s) e₁ ∙ table_emark b s w id 1)
+      ∙ work_sheet n (Ok p) tx w li (λ u. put_field u id 13 1) w₁ (λ m. mention_n b (btf_of b s w) lent ty cont m id) e₁)
+      ex

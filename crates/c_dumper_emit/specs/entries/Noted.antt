@@ -1,5 +1,8 @@
 -- Emission in the lent slices: the rules over the work, the text and, where a call is lent one, the list with an entry for each line.
 use Rattle.std.specs.Prelude.{ℕ, zero, suc, ◌+◌, ◌*◌, Bool, true, false, not, ◌&&◌, ◌||◌, List, [], ◌∷◌, ◌++◌, length, eqb, ltb}
+use Rattle.std.specs.Prelude.{Result, Ok, Err}
+use Rattle.spec_bytes.specs.Refusals.{refusal_number}
+use Rattle.spec_bytes.specs.declared.refusal.Refusal.{Refusal}
 use Rattle.spec_bytes.specs.words.Words.{get_word, put_word}
 use Rattle.spec_c_dumper.specs.rules.Order.{comp}
 use Rattle.spec_c_dumper.specs.rules.Machine.{Out, wrote, stuck, Machine, is_zero, obind, once, again, leaf, begin, look}
@@ -39,9 +42,10 @@ entry_of e = entry e.id (cause_code e.cause) e.leader
 unfoldable pub entry_put : List ℕ → ℕ → Origin → List ℕ
 entry_put l k e = put_word (put_word (put_word l (k * 3) e.id) (k * 3 + 1) (cause_code e.cause)) (k * 3 + 2) e.leader
 
--- what the code's place and count say, with text, work and list at that moment; n: the length of the order list
-unfoldable pub noted_out : ℕ → Pen → List ℕ → List ℕ → List ℕ → Out (Noted Sheet)
-noted_out n p t w l = with_entries (entries_of p.count l) (emit_out n p.at t w)
+-- what the code's place and count say, with text, work and list at that moment, or its refusal; n: the length of the order list
+unfoldable pub noted_out : ℕ → Result Pen Refusal → List ℕ → List ℕ → List ℕ → Out (Noted Sheet)
+noted_out n (Ok p) t w l = with_entries (entries_of p.count l) (emit_out n (Ok p.at) t w)
+noted_out n (Err c) t w l = stuck (refusal_number c)
 
 -- ---- a line
 

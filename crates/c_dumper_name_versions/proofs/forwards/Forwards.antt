@@ -3,7 +3,8 @@ use Prim.Native.Nat.{ℕ}
 use mathlib.Core.Path.{◌≡◌, refl, ap, ◌∙◌, sym}
 use mathlib.Core.List.{List}
 use mathlib.Core.Bool.{Bool, true, false, not}
-use Rattle.spec_bytes.specs.text.Text.{ascii, whole, put_out, put_text}
+use Rattle.spec_bytes.specs.text.Text.{ascii, whole}
+use Rattle.spec_bytes.specs.text.Placed.{Placed, put_out, put_text}
 use Rattle.spec_c_dumper.specs.rules.Types.{Name, Btf as Rules}
 use Rattle.spec_c_dumper.specs.rules.Writer.{◌⨾◌, put}
 use Rattle.spec_c_dumper.specs.rules.Place.{out_of, put_said}
@@ -19,7 +20,7 @@ pub keyword_same : (b : TypeTable) (s w s' w' : List ℕ) (is_struct : Bool) →
 unfolding keyword btf_of
 keyword_same b s w s' w' is_struct = refl
 
-module _ (t : List ℕ) (at r : ℕ) (u : List ℕ) where
+module _ (t : List ℕ) (at r : Placed) (u : List ℕ) where
   pub put_struct : (b : TypeTable) (s w : List ℕ) (is_struct : Bool) → is_struct ≡ true → put_out r u ≡ put_text t at (whole (ascii "struct")) → put_out r u ≡ put_text t at (whole (keyword (btf_of b s w) is_struct))
   unfolding keyword
   put_struct b s w is_struct h e = rw h e
@@ -32,7 +33,7 @@ module _ (t : List ℕ) (at r : ℕ) (u : List ℕ) where
   unfolding keyword btf_of
   put_union b s w is_struct h k e = rw (h, k) e
 
-module _ (b : TypeTable) (w : List ℕ) (B : Rules) (t : List ℕ) (at id : ℕ) (is_struct : Bool) (name : Name) where
+module _ (b : TypeTable) (w : List ℕ) (B : Rules) (t : List ℕ) (at : Placed) (id : ℕ) (is_struct : Bool) (name : Name) where
   -- nothing for the compiler's own type
   pub fwd_builtin : builtin name ≡ true → out_of at t w ≡ put_said t at (emit_composite_fwd (work_naming b) B id is_struct name w)
   unfolding emit_composite_fwd
@@ -43,7 +44,7 @@ module _ (b : TypeTable) (w : List ℕ) (B : Rules) (t : List ℕ) (at id : ℕ)
   fwd_is h = rw (h, emit_composite_fwd)
 
   -- the keyword, a space and the name
-  pub fwd_named : (n w' : List ℕ) (p : ℕ) (t₁ : List ℕ) (q : ℕ) (t₂ : List ℕ) (r : ℕ) (t₃ : List ℕ) → builtin name ≡ false
+  pub fwd_named : (n w' : List ℕ) (p : Placed) (t₁ : List ℕ) (q : Placed) (t₂ : List ℕ) (r : Placed) (t₃ : List ℕ) → builtin name ≡ false
       → put n w' ≡ resolve_type_name (work_naming b) tag_space id name put w
       → put_out p t₁ ≡ put_text t at (whole (keyword B is_struct)) → put_out q t₂ ≡ put_text t₁ p (whole (ascii " ")) → put_out r t₃ ≡ put_text t₂ q (whole n)
       → out_of r t₃ w' ≡ put_said t at (emit_composite_fwd (work_naming b) B id is_struct name w)
@@ -52,7 +53,7 @@ module _ (b : TypeTable) (w : List ℕ) (B : Rules) (t : List ℕ) (at id : ℕ)
       (put_then _ _ _ _ _ p t₁ w' _ _ _ (put_only _ _ _ w' _ _ e₁) (put_then _ _ _ _ _ q t₂ w' _ _ _ (put_only _ _ _ w' _ _ e₂) (put_only _ _ _ w' _ _ e₃)))
       ∙ ap (put_said t at) (sym (fwd_is h))
 
-pub fwd_def : (b : TypeTable) (w : List ℕ) (B : Rules) (t : List ℕ) (at id : ℕ) (is_union : Bool) (name : Name) (r : ℕ) (t' w' : List ℕ)
+pub fwd_def : (b : TypeTable) (w : List ℕ) (B : Rules) (t : List ℕ) (at : Placed) (id : ℕ) (is_union : Bool) (name : Name) (r : Placed) (t' w' : List ℕ)
     → out_of r t' w' ≡ put_said t at (emit_composite_fwd (work_naming b) B id (not is_union) name w) → out_of r t' w' ≡ put_said t at (emit_fwd_def (work_naming b) B id is_union name w)
 unfolding emit_fwd_def
 fwd_def b w B t at id is_union name r t' w' e = e

@@ -5,6 +5,7 @@ use mathlib.Core.List.{List}
 use mathlib.Core.Bool.{Bool, true, false}
 use borrow.Author.Tests.{lt-ltb, le-ltb, ne_eqb}
 use Rattle.spec_bytes.specs.text.Text.{bytes}
+use Rattle.spec_bytes.specs.text.Placed.{Placed}
 use Rattle.spec_c_dumper.specs.rules.Types.{is_empty}
 use Rattle.spec_c_dumper.specs.rules.Writer.{Said, said_text, said_names, Writer, put}
 use Rattle.spec_c_dumper.specs.rules.Place.{out_of, put_said}
@@ -102,7 +103,7 @@ resolved_type b space₀ space id name n w w' k e = go (is_empty name) refl
         ap₂ (λ (x y : List ℕ). k x y) (put_name_of _ _ _ _ q) (put_work_of _ _ _ _ q) ∙ sym (some_name b space id name w k h)
 
 -- after resolve_type_name
-pub put_type_name : (b : TypeTable) (space₀ space : Space) (id : ℕ) (name n w w' : List ℕ) (k : List ℕ → Writer (List ℕ)) (t : List ℕ) (at r : ℕ) (t'' w'' : List ℕ)
+pub put_type_name : (b : TypeTable) (space₀ space : Space) (id : ℕ) (name n w w' : List ℕ) (k : List ℕ → Writer (List ℕ)) (t : List ℕ) (at r : Placed) (t'' w'' : List ℕ)
     → put n w' ≡ resolve_type_name (work_naming b) space₀ id name put w → out_of r t'' w'' ≡ put_said t at (k n w')
     → out_of r t'' w'' ≡ put_said t at (resolve_type_name (work_naming b) space id name k w)
 put_type_name b space₀ space id name n w w' k t at r t'' w'' e o = o ∙ ap (put_said t at) (resolved_type b space₀ space id name n w w' k e)
@@ -118,7 +119,7 @@ resolved_value b s id i e off n w w' k ee q =
     ∙ ap (λ (x : List ℕ). k (spelled (str_at b s off) (value_version_in b.types e w).version) x) q.2
     ∙ ap (λ (x : ℕ). k (spelled (str_at b s off) (value_version_in b.types x w).version) (value_version_in b.types x w).names) ee
 
-pub put_value_name : (b : TypeTable) (s : List ℕ) (id i e off : ℕ) (n : Name) (w w' : List ℕ) (k : List ℕ → Writer (List ℕ)) (t : List ℕ) (at r : ℕ) (t'' w'' : List ℕ)
+pub put_value_name : (b : TypeTable) (s : List ℕ) (id i e off : ℕ) (n : Name) (w w' : List ℕ) (k : List ℕ → Writer (List ℕ)) (t : List ℕ) (at r : Placed) (t'' w'' : List ℕ)
     → e ≡ enumerator_of w id i
     → (n.off ≡ off) × (n.version ≡ (value_version_in b.types e w).version) × (w' ≡ (value_version_in b.types e w).names)
     → out_of r t'' w'' ≡ put_said t at (k (name_text b s n) w')

@@ -3,10 +3,15 @@ use Prim.Native.Nat.{ℕ, ◌<◌, ◌≤◌}
 use mathlib.Core.Path.{◌≡◌, refl, ap, ◌∙◌, sym}
 use mathlib.Core.List.{List, [], ◌∷◌, ◌++◌}
 use mathlib.Core.Bool.{Bool, true, false}
+use mathlib.Core.Logic.{⊎_elim}
 use borrow.Author.Tests.{lt-ltb, le-ltb}
-use Rattle.spec_bytes.specs.text.Text.{ascii, whole, put_out, put_text}
+use Rattle.std.specs.Prelude.{Err, IsErrAnd}
+use Rattle.spec_bytes.specs.declared.refusal.Refusal.{Refusal}
+use Rattle.spec_bytes.proofs.words.Laws.{le_or_lt}
+use Rattle.spec_bytes.specs.text.Text.{ascii, whole}
+use Rattle.spec_bytes.specs.text.Placed.{Placed, put_out, put_text}
 use Rattle.spec_bytes.specs.text.Decimal.{decimal}
-use Rattle.spec_bytes.proofs.text.TextLaws.{put_same, put_empty}
+use Rattle.spec_bytes.proofs.text.TextLaws.{put_same, put_seq, put_empty, put_past, put_ended, put_halts}
 use Rattle.spec_c_dumper.specs.rules.Types.{is_empty}
 use Rattle.spec_c_dumper.specs.rules.Writer.{put}
 use Rattle.spec_c_dumper.specs.rules.Names.{spelled}
@@ -46,13 +51,21 @@ sep_more : (n : List ℕ) → is_empty n ≡ false → 32 ∷ n ≡ sep_name n
 unfolding sep_name
 sep_more n h = rw (h, sep_name)
 
-module _ (t : List ℕ) (at : ℕ) (r : ℕ) (u : List ℕ) where
+module _ (t : List ℕ) (at r : Placed) (u : List ℕ) where
   -- put_name
   pub put_bare : (name : List ℕ) (v : ℕ) → v < 2 → put_out r u ≡ put_text t at (whole name) → put_out r u ≡ put_text t at (whole (spelled name v))
   put_bare name v h e = put_same t at name (spelled name v) r u (sym (spelled_bare name v h)) e
 
   pub put_more : (name : List ℕ) (v : ℕ) → 2 ≤ v → put_out r u ≡ put_text t at (whole (name ++ ascii "___" ++ decimal v)) → put_out r u ≡ put_text t at (whole (spelled name v))
   put_more name v h e = put_same t at (name ++ ascii "___" ++ decimal v) (spelled name v) r u (sym (spelled_more name v h)) e
+
+  -- where the name stopped the writing
+  pub put_stops : (name : List ℕ) (v : ℕ) (c : Refusal) → put_out (Err c) u ≡ put_text t at (whole name) → IsErrAnd r (λ e. e ≡ c) → put_out r u ≡ put_text t at (whole (spelled name v))
+  put_stops name v c e i =
+      ⊎_elim
+      (λ h. put_more name v h (put_halts t at (name ++ ascii "___") (decimal v) c r u (put_seq t at name (ascii "___") (Err c) u (Err c) u e (put_past u c (whole (ascii "___")))) i))
+      (λ h. put_bare name v h (put_ended u r c (whole []) i ∙ sym (put_past u c (whole [])) ∙ e))
+      (le_or_lt 2 v)
 
   -- put_sep_name
   pub put_sep : (name : List ℕ) → is_empty name ≡ false → put_out r u ≡ put_text t at (whole (32 ∷ name)) → put_out r u ≡ put_text t at (whole (sep_name name))
@@ -67,7 +80,7 @@ module _ (t : List ℕ) (at : ℕ) (r : ℕ) (u : List ℕ) where
   unfolding name_after
   put_apart name b h e = rw h e
 
-pub put_no_name : (t : List ℕ) (at : ℕ) (name : List ℕ) → is_empty name ≡ true → put_out at t ≡ put_text t at (whole (sep_name name))
+pub put_no_name : (t : List ℕ) (at : Placed) (name : List ℕ) → is_empty name ≡ true → put_out at t ≡ put_text t at (whole (sep_name name))
 unfolding sep_name
 put_no_name t at name h = rw (h, sep_name) (put_empty t at)
 

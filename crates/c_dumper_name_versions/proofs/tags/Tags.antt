@@ -5,9 +5,12 @@ use mathlib.Core.List.{List, [], ◌∷◌, ◌++◌}
 use mathlib.Core.Bool.{Bool, true, false}
 use native.Mathlib.Omega.{arith}
 use borrow.Author.Tests.{lt-ltb, le-ltb, ne_eqb, eq-eqb}
-use Rattle.spec_bytes.specs.text.Text.{ascii, whole, put_out, put_text, join}
+use Rattle.std.specs.Prelude.{Err, IsErrAnd}
+use Rattle.spec_bytes.specs.declared.refusal.Refusal.{Refusal}
+use Rattle.spec_bytes.specs.text.Text.{ascii, whole, join}
+use Rattle.spec_bytes.specs.text.Placed.{Placed, put_out, put_text}
 use Rattle.base_keywords.specs.table.Fixed.{tag_name}
-use Rattle.spec_bytes.proofs.text.TextLaws.{put_same, put_empty, join_on}
+use Rattle.spec_bytes.proofs.text.TextLaws.{put_same, put_seq, put_empty, put_ended, put_halts, join_on}
 use Rattle.spec_c_dumper.specs.rules.Types.{DeclTag, Btf as Rules}
 use Rattle.spec_c_dumper.specs.rules.Names.{escaped}
 use Rattle.spec_c_dumper.specs.rules.Decl.{attribute, decl_tag, decl_tags}
@@ -24,7 +27,7 @@ use Rattle.spec_type_table.specs.Table.{type_of, record_name, extra_word, tags_f
 use Rattle.spec_type_table.proofs.KindLaws.{by_kind, type_0, type_1, type_2, type_3, type_4, type_5, type_6, type_7, type_8, type_9, type_10, type_11, type_12, type_13, type_14, type_15, type_16, type_17, type_18, type_19, type_none}
 
 -- ---- put_tag_name
-module _ (t : List ℕ) (at r : ℕ) (u : List ℕ) (is_decl : Bool) where
+module _ (t : List ℕ) (at r : Placed) (u : List ℕ) (is_decl : Bool) where
   pub put_decl_name : is_decl ≡ true → put_out r u ≡ put_text t at (whole (ascii "btf_decl_tag")) → put_out r u ≡ put_text t at (whole (tag_name is_decl))
   put_decl_name h e = rw h e
 
@@ -32,14 +35,37 @@ module _ (t : List ℕ) (at r : ℕ) (u : List ℕ) (is_decl : Bool) where
   put_type_name h e = rw h e
 
 -- ---- put_attribute
-module _ (t : List ℕ) (at r : ℕ) (u : List ℕ) (word name : List ℕ) where
-  pub put_own : (is_attr : Bool) → is_attr ≡ true → put_out r u ≡ put_text t at (whole (ascii " __attribute__((" ++ name ++ ascii "))")) → put_out r u ≡ put_text t at (whole (attribute is_attr word name))
+module _ (t : List ℕ) (at r : Placed) (u : List ℕ) (word name : List ℕ) where
+  own_is : (is_attr : Bool) → is_attr ≡ true → ascii " __attribute__((" ++ name ++ ascii "))" ≡ attribute is_attr word name
   unfolding attribute
-  put_own is_attr h e = rw h e
+  own_is is_attr h = rw h refl
 
-  pub put_worded : (is_attr : Bool) → is_attr ≡ false → put_out r u ≡ put_text t at (whole (ascii " __attribute__((" ++ word ++ ascii "(\"" ++ escaped name ++ ascii "\")))")) → put_out r u ≡ put_text t at (whole (attribute is_attr word name))
+  worded_is : (is_attr : Bool) → is_attr ≡ false → ascii " __attribute__((" ++ word ++ ascii "(\"" ++ escaped name ++ ascii "\")))" ≡ attribute is_attr word name
   unfolding attribute
-  put_worded is_attr h e = rw h e
+  worded_is is_attr h = rw h refl
+
+  -- in three steps the name itself
+  pub put_own : (is_attr : Bool) (name' : List ℕ) (n₁ : Placed) (t₁ : List ℕ) (n₂ : Placed) (t₂ : List ℕ) → is_attr ≡ true → name' ≡ name
+      → put_out n₁ t₁ ≡ put_text t at (whole (ascii " __attribute__((")) → put_out n₂ t₂ ≡ put_text t₁ n₁ (whole name') → put_out r u ≡ put_text t₂ n₂ (whole (ascii "))"))
+      → put_out r u ≡ put_text t at (whole (attribute is_attr word name))
+  put_own is_attr name' n₁ t₁ n₂ t₂ h e o₁ o₂ o₃ =
+      put_same t at _ _ r u (own_is is_attr h) (put_seq _ _ _ _ n₂ t₂ _ _ (put_seq _ _ _ _ n₁ t₁ _ _ o₁ (put_same _ _ _ _ _ _ e o₂)) o₃)
+
+  -- in five steps the name in quotes after its word
+  pub put_worded : (is_attr : Bool) (name' : List ℕ) (n₁ : Placed) (t₁ : List ℕ) (n₂ : Placed) (t₂ : List ℕ) (n₃ : Placed) (t₃ : List ℕ) (n₄ : Placed) (t₄ : List ℕ) → is_attr ≡ false → name' ≡ name
+      → put_out n₁ t₁ ≡ put_text t at (whole (ascii " __attribute__((")) → put_out n₂ t₂ ≡ put_text t₁ n₁ (whole word) → put_out n₃ t₃ ≡ put_text t₂ n₂ (whole (ascii "(\""))
+      → put_out n₄ t₄ ≡ put_text t₃ n₃ (whole (escaped name')) → put_out r u ≡ put_text t₄ n₄ (whole (ascii "\")))"))
+      → put_out r u ≡ put_text t at (whole (attribute is_attr word name))
+  put_worded is_attr name' n₁ t₁ n₂ t₂ n₃ t₃ n₄ t₄ h e o₁ o₂ o₃ o₄ o₅ =
+      put_same t at _ _ r u (worded_is is_attr h)
+      (put_seq _ _ _ _ n₄ t₄ _ _
+      (put_seq _ _ _ _ n₃ t₃ _ _ (put_seq _ _ _ _ n₂ t₂ _ _ (put_seq _ _ _ _ n₁ t₁ _ _ o₁ o₂) o₃) (put_same _ _ _ _ _ _ (ap escaped e) o₄))
+      o₅)
+
+  -- where the start of either stopped the writing
+  pub put_unstarted : (is_attr : Bool) (c : Refusal) → put_out (Err c) u ≡ put_text t at (whole (ascii " __attribute__((")) → IsErrAnd r (λ e. e ≡ c) → put_out r u ≡ put_text t at (whole (attribute is_attr word name))
+  put_unstarted true c e i = put_same t at _ _ r u (own_is true refl) (put_halts t at (ascii " __attribute__((") (name ++ ascii "))") c r u e i)
+  put_unstarted false c e i = put_same t at _ _ r u (worded_is false refl) (put_halts t at (ascii " __attribute__((") (word ++ ascii "(\"" ++ escaped name ++ ascii "\")))") c r u e i)
 
 -- ---- emit_decl_tag
 pub tag_named : (k : ℕ) (x : Kind) → x ≡ kind_named k → k ≡ 17 → x ≡ KindTag
@@ -85,7 +111,7 @@ module _ (b : TypeTable) (s : List ℕ) (comp : ℕ) (t : Record) where
   unfolding decl_tag
   this_tag e n = tag_is e ∙ rw (eq-eqb (extra_word b s t) comp n, decl_tag)
 
-module _ (b : TypeTable) (s w : List ℕ) (id comp : ℕ) (x : Record) (ex : x ≡ record_by_id b s w id) (text : List ℕ) (at : ℕ) where
+module _ (b : TypeTable) (s w : List ℕ) (id comp : ℕ) (x : Record) (ex : x ≡ record_by_id b s w id) (text : List ℕ) (at : Placed) where
   tag_of : (l : List ℕ) → decl_tag comp (type_of b s x) ≡ l → l ≡ decl_tag comp ((btf_of b s w).type_by_id id)
   unfolding btf_of
   tag_of l e = sym e ∙ ap (λ (y : Record). decl_tag comp (type_of b s y)) ex
@@ -96,7 +122,7 @@ module _ (b : TypeTable) (s w : List ℕ) (id comp : ℕ) (x : Record) (ex : x �
   pub tag_no_comp : (k i : ℕ) → k ≡ kind_of x.info → k ≡ 17 → i ≡ extra_word b s x → (i ≡ comp → ⊥) → put_out at text ≡ put_text text at (whole (decl_tag comp ((btf_of b s w).type_by_id id)))
   tag_no_comp k i ek e ei n = put_same text at [] _ at text (tag_of [] (other_tag b s comp x (sym ek ∙ e) (λ q. n (ei ∙ q)))) (put_empty text at)
 
-  pub tag_shown : (k i : ℕ) (f : Bool) (r : ℕ) (u : List ℕ) → k ≡ kind_of x.info → k ≡ 17 → i ≡ extra_word b s x → i ≡ comp → f ≡ flag_of x.info
+  pub tag_shown : (k i : ℕ) (f : Bool) (r : Placed) (u : List ℕ) → k ≡ kind_of x.info → k ≡ 17 → i ≡ extra_word b s x → i ≡ comp → f ≡ flag_of x.info
       → put_out r u ≡ put_text text at (whole (attribute f (ascii "btf_decl_tag") (str_at b s x.name_off)))
       → put_out r u ≡ put_text text at (whole (decl_tag comp ((btf_of b s w).type_by_id id)))
   tag_shown k i f r u ek e ei q ef o =
@@ -122,23 +148,23 @@ module _ (types : ℕ) (w : List ℕ) (last x : ℕ) where
   tags_more (suc f) h k l = let e : f ≡ suc f - 1 = omega arith in rw (lt-ltb last x h, lt-ltb x types k, tags_from) (ap (λ (g : ℕ). x ∷ tags_from g types w x (get_field w x 10)) e)
 
 -- what is left to write, from the tag x on, is the whole; with as many turns as are enough
-pub TagsLeft : TypeTable → List ℕ → List ℕ → ℕ → ℕ → List ℕ → ℕ → List ℕ → ℕ → ℕ → ℕ → Type 0
+pub TagsLeft : TypeTable → List ℕ → List ℕ → ℕ → ℕ → List ℕ → Placed → List ℕ → Placed → ℕ → ℕ → Type 0
 TagsLeft b s w id comp text₀ at text p last x =
     (f : ℕ)
     × (4294967296 ≤ f + last)
     × (put_text text p (whole (decl_tags (btf_of b s w) comp (tags_from f b.types w last x))) ≡ put_text text₀ at (whole (decl_tags (btf_of b s w) comp ((btf_of b s w).decl_tags id))))
 
-tags_join : (B : Rules) (comp x : ℕ) (l : List ℕ) (t : List ℕ) (at n : ℕ) (t' : List ℕ) → put_out n t' ≡ put_text t at (whole (decl_tag comp (B.type_by_id x)))
+tags_join : (B : Rules) (comp x : ℕ) (l : List ℕ) (t : List ℕ) (at n : Placed) (t' : List ℕ) → put_out n t' ≡ put_text t at (whole (decl_tag comp (B.type_by_id x)))
     → put_text t' n (whole (decl_tags B comp l)) ≡ put_text t at (whole (decl_tags B comp (x ∷ l)))
 unfolding decl_tags join
 tags_join B comp x l t at n t' o = join_on t at (whole (decl_tag comp (B.type_by_id x))) (whole (decl_tags B comp l)) n t' o
 
-module _ (b : TypeTable) (s w : List ℕ) (id comp : ℕ) (text₀ : List ℕ) (at : ℕ) where
+module _ (b : TypeTable) (s w : List ℕ) (id comp : ℕ) (text₀ : List ℕ) (at : Placed) where
   pub tags_start : (x : ℕ) → x ≡ get_field w id 9 → TagsLeft b s w id comp text₀ at text₀ at 0 x
   unfolding TagsLeft btf_of tags_of
   tags_start x e = (4294967296, omega arith, ap (λ (y : ℕ). put_text text₀ at (whole (decl_tags (btf_of b s w) comp (tags_from 4294967296 b.types w 0 y)))) e)
 
-  module _ (text : List ℕ) (p last x : ℕ) where
+  module _ (text : List ℕ) (p : Placed) (last x : ℕ) where
     none_left : (l : List ℕ) → l ≡ [] → put_text text p (whole (decl_tags (btf_of b s w) comp l)) ≡ put_text text₀ at (whole (decl_tags (btf_of b s w) comp ((btf_of b s w).decl_tags id)))
         → put_out p text ≡ put_text text₀ at (whole (decl_tags (btf_of b s w) comp ((btf_of b s w).decl_tags id)))
     unfolding decl_tags
@@ -152,7 +178,7 @@ module _ (b : TypeTable) (s w : List ℕ) (id comp : ℕ) (text₀ : List ℕ) (
     unfolding TagsLeft
     tags_past i h k = none_left _ (tags_high b.types w last x i.0 h k) i.2
 
-    pub tags_turn : (n : ℕ) (t' : List ℕ) (y : ℕ) → TagsLeft b s w id comp text₀ at text p last x → last < x → x < b.types → x < 4294967296
+    pub tags_turn : (n : Placed) (t' : List ℕ) (y : ℕ) → TagsLeft b s w id comp text₀ at text p last x → last < x → x < b.types → x < 4294967296
         → put_out n t' ≡ put_text text p (whole (decl_tag comp ((btf_of b s w).type_by_id x))) → y ≡ get_field w x 10
         → TagsLeft b s w id comp text₀ at t' n x y
     unfolding TagsLeft
@@ -175,6 +201,12 @@ module _ (b : TypeTable) (s w : List ℕ) (id comp : ℕ) (text₀ : List ℕ) (
 
         one_more : (g : ℕ) → y ≡ get_field w x 10 → put_text t' n (whole (decl_tags (btf_of b s w) comp (tags_from g b.types w x y))) ≡ put_text text p (whole (decl_tags (btf_of b s w) comp (x ∷ tags_from g b.types w x (get_field w x 10))))
         one_more g e = join_one (tags_from g b.types w x y) ∙ ap (λ (z : ℕ). put_text text p (whole (decl_tags (btf_of b s w) comp (x ∷ tags_from g b.types w x z)))) e
+
+  -- where one tag stopped the writing
+  pub tags_stop : (text : List ℕ) (last x : ℕ) (c : Refusal) (r : Placed) → TagsLeft b s w id comp text₀ at text (Err c) last x → IsErrAnd r (λ e. e ≡ c)
+      → put_out r text ≡ put_text text₀ at (whole (decl_tags (btf_of b s w) comp ((btf_of b s w).decl_tags id)))
+  unfolding TagsLeft
+  tags_stop text last x c r i e = put_ended text r c (whole (decl_tags (btf_of b s w) comp (tags_from i.0 b.types w last x))) e ∙ i.2
 
   -- without a first tag there is none
   pub tags_none : (x : ℕ) → x ≡ get_field w id 9 → x ≡ 0 → put_out at text₀ ≡ put_text text₀ at (whole (decl_tags (btf_of b s w) comp ((btf_of b s w).decl_tags id)))

@@ -1,7 +1,8 @@
 // Names as they are printed. The first holder of a name prints it bare; the n-th, from 2 on, adds three underscores and n, or a
 // later number where opening listed numbers that are passed over.
-ghost use Rattle.std.specs.Prelude.{◌≡◌};
-ghost use Rattle.spec_bytes.specs.text.Text.{whole, put_out, put_text};
+ghost use Rattle.std.specs.Prelude.{◌≡◌, Ok};
+ghost use Rattle.spec_bytes.specs.text.Text.{whole};
+ghost use Rattle.spec_bytes.specs.text.Placed.{put_out, put_text};
 ghost use Rattle.spec_c_dumper.specs.rules.Writer.{put};
 ghost use Rattle.spec_c_dumper.specs.rules.Types.{is_empty};
 ghost use Rattle.spec_c_dumper.specs.rules.Names.{tag_space, resolve_type_name};
@@ -11,6 +12,7 @@ ghost use Rattle.spec_type_table.specs.Table.{work_naming, value_version_in};
 ghost use Rattle.c_dumper_name_versions.specs.names.Spelling.{name_text, name_after};
 
 use base_bytes::put::{put_byte, put_decimal};
+use base_bytes::refusal::Refusal;
 use base_keywords::table::{Word, put_word};
 use btf_open_names::numbers::get_number;
 use btf_type_table::cell;
@@ -68,14 +70,14 @@ pub fn resolve_name(b: TypeTable, work: &mut [u8], e: u32, off: u32) -> Name
     }
 }
 
-pub fn put_name(b: &Table, text: &mut [u8], at: usize, name: Name) -> usize
-    ensures { put_out result text.new ≡ put_text text.old at (whole (name_text b.now.head b.now.section.now name)) }
+pub fn put_name(b: &Table, text: &mut [u8], at: usize, name: Name) -> Result<usize, Refusal>
+    ensures { put_out result text.new ≡ put_text text.old (Ok at) (whole (name_text b.now.head b.now.section.now name)) }
 {
-    let a = b.put_str(text, at, name.off);
+    let a = b.put_str(text, at, name.off)?;
     if name.version < SECOND {
-        return a;
+        return Ok(a);
     }
-    let c = put_word(text, a, Word::Underscores);
+    let c = put_word(text, a, Word::Underscores)?;
     put_decimal(text, c, name.version as u64)
 }
 
@@ -87,20 +89,26 @@ pub fn is_blank(b: &Table, name: Name) -> bool
 }
 
 // sep and the name: a space before it, unless it is empty.
-pub fn put_sep_name(b: &Table, text: &mut [u8], at: usize, name: Name) -> usize
+pub fn put_sep_name(b: &Table, text: &mut [u8], at: usize, name: Name) -> Result<usize, Refusal>
     ensures { put_out result text.new
-        ≡ put_text text.old at (whole (sep_name (name_text b.now.head b.now.section.now name))) }
+        ≡ put_text text.old (Ok at) (whole (sep_name (name_text b.now.head b.now.section.now name))) }
 {
     if is_blank(b, name) {
-        return at;
+        return Ok(at);
     }
-    let a = put_byte(text, at, b' ');
+    let a = put_byte(text, at, b' ')?;
     put_name(b, text, a, name)
 }
 
-pub fn emit_name(b: &Table, text: &mut [u8], at: usize, name: Name, last_was_ptr: bool) -> usize
+pub fn emit_name(
+    b: &Table,
+    text: &mut [u8],
+    at: usize,
+    name: Name,
+    last_was_ptr: bool,
+) -> Result<usize, Refusal>
     ensures { put_out result text.new
-        ≡ put_text text.old at (whole (name_after (name_text b.now.head b.now.section.now name) last_was_ptr)) }
+        ≡ put_text text.old (Ok at) (whole (name_after (name_text b.now.head b.now.section.now name) last_was_ptr)) }
 {
     if last_was_ptr {
         return put_name(b, text, at, name);

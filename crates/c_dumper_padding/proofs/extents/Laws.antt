@@ -1,6 +1,6 @@
 -- What each return of the code comes to. Assumes nothing.
 use Prim.Native.Nat.{ℕ, suc, ◌+◌, ◌-◌, ◌*◌, ◌/◌, ◌%◌, ◌<◌, ◌≤◌}
-use mathlib.Core.Path.{◌≡◌, refl, ap, ◌∙◌, sym}
+use mathlib.Core.Path.{◌≡◌, refl, ap, ap₂, ◌∙◌, sym}
 use mathlib.Core.Bool.{Bool, true, false, ◌&&◌}
 use mathlib.Core.List.{List}
 use native.Mathlib.Omega.{arith}
@@ -8,7 +8,10 @@ use native.Mathlib.Nat.{div-zero, mul-zero}
 use lib.Dec.{eqb, leb}
 use borrow.Author.Tests.{le-leb, lt-leb, eq-eqb, ne_eqb, lt-ltb, le-ltb}
 use Rattle.std.specs.Prelude.{◌^◌, max, Option, Some, None, SomeIff, Result, Ok, Err}
-use Rattle.std.specs.Option.{ok_or}
+use Rattle.std.specs.Int.{div_ceil}
+use Rattle.std.specs.Option.{ok_or, option_eq}
+use Rattle.std.proofs.lemmas.Nat.{div-mul-add}
+use Rattle.std.proofs.lemmas.Grind.{div_ceil_times}
 use Rattle.btf_layout.proofs.remembered.Laws.{max_larger}
 use Rattle.spec_bytes.specs.declared.refusal.Refusal.{Refusal}
 use Rattle.spec_bytes.specs.declared.refusal.Refusal.TheVariants.{Overflow, Misplaced}
@@ -37,27 +40,46 @@ module _ (n a : ℕ) where
   unfolding round_up
   round_none z = let e : 8 * a ≡ 0 = omega arith in sym (ap (λ (k : ℕ). (n + (k - 1)) / k * k) e ∙ mul-zero ((n + (0 - 1)) / 0))
 
-  pub round_some : (n + (a * 8 - 1)) / (a * 8) * (a * 8) ≡ round_up n (8 * a)
+  pub round_some : (a ≡ 0 → ⊥) → (r : ℕ) → r ≡ div_ceil n (a * 8) → r * (a * 8) ≡ round_up n (8 * a)
   unfolding round_up
-  round_some = let e : a * 8 ≡ 8 * a = omega arith in ap (λ (k : ℕ). (n + (k - 1)) / k * k) e
+  round_some z r er = ap (λ (q : ℕ). q * (a * 8)) (er ∙ sym quotient) ∙ ap (λ (k : ℕ). (n + (k - 1)) / k * k) same
+    where
+      q : ℕ
+      q = div_ceil n (a * 8)
+
+      same : a * 8 ≡ 8 * a
+      same = omega arith
+
+      near : (n ≤ q * (a * 8)) × (q * (a * 8) < n + a * 8)
+      near = div_ceil_times n (a * 8) (omega (arith, z))
+
+      rest : ℕ
+      rest = n + (a * 8 - 1) - q * (a * 8)
+
+      parts : n + (a * 8 - 1) ≡ q * (a * 8) + rest
+      parts = omega (arith, near)
+
+      quotient : (n + (a * 8 - 1)) / (a * 8) ≡ q
+      quotient = ap (λ (x : ℕ). x / (a * 8)) parts ∙ div-mul-add q (a * 8) rest (omega (arith, near))
 
 -- ---- same_unit
 module _ (size start width : ℕ) where
-  pub unit_none : size * 8 ≡ 0 → true ≡ same_unit (8 * size) start width
+  unit_none : size * 8 ≡ 0 → true ≡ same_unit (8 * size) start width
   unfolding same_unit
   unit_none z =
       let e : 8 * size ≡ 0 = omega arith in
       sym (ap (λ (u : ℕ). eqb (start / u) ((start + width - 1) / u)) e ∙ eq-eqb (start / 0) ((start + width - 1) / 0) (div-zero start ∙ sym (div-zero (start + width - 1))))
 
-  pub unit_empty : start + width ≡ 0 → true ≡ same_unit (8 * size) start width
+  unit_some : eqb (start / (size * 8)) ((start + width - 1) / (size * 8)) ≡ same_unit (8 * size) start width
   unfolding same_unit
-  unit_empty z =
-      let e : start ≡ start + width - 1 = omega arith in
-      sym (eq-eqb (start / (8 * size)) ((start + width - 1) / (8 * size)) (ap (λ (x : ℕ). x / (8 * size)) e))
+  unit_some = let e : size * 8 ≡ 8 * size = omega arith in ap (λ (u : ℕ). eqb (start / u) ((start + width - 1) / u)) e
 
-  pub unit_tested : eqb (start / (size * 8)) ((start + width - 1) / (size * 8)) ≡ same_unit (8 * size) start width
-  unfolding same_unit
-  unit_tested = let e : size * 8 ≡ 8 * size = omega arith in ap (λ (u : ℕ). eqb (start / u) ((start + width - 1) / u)) e
+  pub unit_tested : (x y : Option ℕ) (l : ℕ) (r : Bool) → l ≡ start + width - 1 → SomeIff x (0 < size * 8) (start / (size * 8)) → SomeIff y (0 < size * 8) (l / (size * 8))
+      → r ≡ option_eq eqb x y → r ≡ same_unit (8 * size) start width
+  unit_tested None None l r el ex ey er = er ∙ unit_none (omega (arith, ex))
+  unit_tested None (Some y) l r el ex ey er = absurd (ex ey.0)
+  unit_tested (Some x) None l r el ex ey er = absurd (ey ex.0)
+  unit_tested (Some x) (Some y) l r el ex ey er = er ∙ ap₂ eqb ex.1 (ey.1 ∙ ap (λ (k : ℕ). k / (size * 8)) el) ∙ unit_some
 
 -- ---- field_fits
 module _ (p : Bool) (size off w : ℕ) where

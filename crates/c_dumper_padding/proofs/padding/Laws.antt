@@ -4,7 +4,9 @@ use mathlib.Core.Path.{◌≡◌, refl, ap, ap₂, ◌∙◌, sym}
 use mathlib.Core.Bool.{Bool, true, false}
 use mathlib.Core.List.{List, []}
 use borrow.Author.Tests.{le-leb, lt-leb}
-use Rattle.spec_bytes.specs.text.Text.{whole, cut, put_out, put_text}
+use Rattle.spec_bytes.specs.text.Text.{whole, cut}
+use Rattle.spec_bytes.specs.text.Placed.{Placed, put_out, put_text}
+use Rattle.spec_bytes.proofs.text.TextLaws.{put_past, put_ended, put_cut}
 use Rattle.spec_c_dumper.specs.rules.Writer.{put}
 use Rattle.spec_c_dumper.specs.rules.Types.{Member, Btf as Rules}
 use Rattle.spec_c_dumper.specs.rules.Layout.{Pad, pads_before}
@@ -12,7 +14,7 @@ use Rattle.spec_c_dumper.specs.rules.Decl.{pads}
 use Rattle.spec_c_dumper.specs.rules.Place.{out_of, put_said}
 use Rattle.spec_c_dumper.proofs.rules.Writing.{put_only, put_nothing}
 use Rattle.spec_type_table.specs.Cells.{get_field}
-use Rattle.std.specs.Prelude.{Result, Ok, Err}
+use Rattle.std.specs.Prelude.{Result, Ok, Err, IsErrAnd}
 use Rattle.spec_bytes.specs.declared.refusal.Refusal.{Refusal}
 use Rattle.spec_bytes.specs.Refusals.{refusal_number}
 use Rattle.spec_c_dumper.specs.alignment_once.Once.{Keep, Once, found, Asking, once_then}
@@ -42,9 +44,9 @@ module _ (types : ℕ) (B : Rules) (offset : ℕ) (m : Member) (packed : Bool) (
   unfolding padding_once forget
   no_gap h = rw (le-leb m.bit_offset offset h, padding_once)
 
-  pub emit_none : m.bit_offset ≤ offset → out_of at t w ≡ put_said t at (pad_said types B offset m packed lvl w)
+  pub emit_none : m.bit_offset ≤ offset → out_of (Ok at) t w ≡ put_said t (Ok at) (pad_said types B offset m packed lvl w)
   unfolding pad_said pads
-  emit_none h = given_found t at ask (λ ps. put (pads lvl ps)) w w at t [] w (no_gap h ∙ asked) (put_nothing t at w)
+  emit_none h = given_found t (Ok at) ask (λ ps. put (pads lvl ps)) w w (Ok at) t [] w (no_gap h ∙ asked) (put_nothing t (Ok at) w)
 
   module _ (h : offset < m.bit_offset) (y : Answer) (u : List ℕ) (ey : ask_in y u ≡ gap_in types B packed m.type_id w) where
     abbrev pads_on : ℕ → Asking (List ℕ) (List Pad)
@@ -61,13 +63,17 @@ module _ (types : ℕ) (B : Rules) (offset : ℕ) (m : Member) (packed : Bool) (
         ∙ ap (λ (q : Bool). forget {M = List ℕ} {A = List Pad} (elim q as (λ (z : Bool). Once (List ℕ) (List Pad)) [ true ↦ found [] w 0 | false ↦ once_then (gap_align_once K B packed m.type_id w 0) pads_on ])) (sym (lt-leb m.bit_offset offset h))
         ∙ asked
 
-    pub emit_gap : (pl : Bool) (p a r : ℕ) (t' : List ℕ) → pl ≡ B.placing → p ≡ B.ptr_sz → y ≡ Ok a → put_out r t' ≡ put_text t at (whole (pads lvl (pads_before pl p offset m.bit_size (m.bit_offset - offset) a)))
-        → out_of r t' u ≡ put_said t at (pad_said types B offset m packed lvl w)
+  module _ (h : offset < m.bit_offset) (u : List ℕ) where
+    pub emit_gap : (pl : Bool) (p a : ℕ) (r : Placed) (t' : List ℕ) → pl ≡ B.placing → p ≡ B.ptr_sz → ask_in (Ok a) u ≡ gap_in types B packed m.type_id w
+        → put_out r t' ≡ put_text t (Ok at) (whole (pads lvl (pads_before pl p offset m.bit_size (m.bit_offset - offset) a)))
+        → out_of r t' u ≡ put_said t (Ok at) (pad_said types B offset m packed lvl w)
     unfolding pad_said ask_in next forget
     emit_gap pl p a r t' el ep g e =
-        given_found t at ask (λ ps. put (pads lvl ps)) w u r t' _ u (ap (λ (z : Answer). next pads_on (ask_in z u)) (sym g) ∙ gap)
-        (put_only t at _ u r t' (e ∙ ap₂ (λ (l : Bool) (n : ℕ). put_text t at (whole (pads lvl (pads_before l n offset m.bit_size (m.bit_offset - offset) a)))) el ep))
+        given_found t (Ok at) ask (λ ps. put (pads lvl ps)) w u r t' _ u (gap h (Ok a) u g)
+        (put_only t (Ok at) _ u r t' (e ∙ ap₂ (λ (l : Bool) (n : ℕ). put_text t (Ok at) (whole (pads lvl (pads_before l n offset m.bit_size (m.bit_offset - offset) a)))) el ep))
 
-    pub emit_refused : (c : Refusal) (n r : ℕ) (t' : List ℕ) → y ≡ Err c → n ≡ refusal_number c → put_out r t' ≡ put_text t at (cut [] n) → out_of r t' u ≡ put_said t at (pad_said types B offset m packed lvl w)
+    pub emit_refused : (c : Refusal) (r : Placed) → ask_in {A = ℕ} (Err c) u ≡ gap_in types B packed m.type_id w → IsErrAnd r (λ e. e ≡ c) → out_of r t u ≡ put_said t (Ok at) (pad_said types B offset m packed lvl w)
     unfolding pad_said ask_in next
-    emit_refused c n r t' g en e = given_refused t at ask (λ ps. put (pads lvl ps)) w u r t' (refusal_number c) (ap (λ (z : Answer). next pads_on (ask_in z u)) (sym g) ∙ gap) (e ∙ ap (λ (z : ℕ). put_text t at (cut [] z)) en)
+    emit_refused c r g i =
+        given_refused t (Ok at) ask (λ ps. put (pads lvl ps)) w u r t (refusal_number c) (gap h (Err c) u g)
+        (put_ended t r c (cut [] (refusal_number c)) i ∙ sym (put_past t c (cut [] (refusal_number c))) ∙ put_cut t at c)

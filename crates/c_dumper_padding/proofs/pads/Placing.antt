@@ -6,8 +6,9 @@ use mathlib.Core.List.{List, [], ◌∷◌, ◌++◌}
 use native.Mathlib.Omega.{arith}
 use lib.Dec.{eqb, ltb}
 use borrow.Author.Tests.{lt-ltb, le-ltb, ne_eqb}
-use Rattle.spec_bytes.specs.text.Text.{whole, is_stopped, put_out, put_text, ascii}
-use Rattle.spec_bytes.proofs.text.TextLaws.{put_seq, put_same, put_empty, put_stopped}
+use Rattle.spec_bytes.specs.text.Text.{whole, ascii}
+use Rattle.spec_bytes.specs.text.Placed.{Placed, put_out, put_text}
+use Rattle.spec_bytes.proofs.text.TextLaws.{put_seq, put_same, put_empty}
 use Rattle.spec_c_dumper.specs.rules.Layout.{Pad, pad_of, pads_of, placed_pad, placed_pads, placed_gap, gap_pads, pads_before}
 use Rattle.spec_c_dumper.specs.rules.Placing.{tail_pads}
 use Rattle.spec_c_dumper.specs.rules.Decl.{pads, own_line, tail_text}
@@ -86,11 +87,7 @@ module _ (placing : Bool) (p start gap : ℕ) where
       go true e = rw e (placed_next p start gap l)
       go false e = rw e (pads_next p gap l)
 
-module _ (t₀ : List ℕ) (at : ℕ) (a₀ : List ℕ) (placing : Bool) (ptr_sz lvl s end p : ℕ) (t : List ℕ) (go : Goes t₀ at a₀ t p (pads lvl (pads_by placing ptr_sz s (end - s)))) where
-  pub pads_stopped : is_stopped (put_out p t) ≡ true → put_out p t ≡ put_text t₀ at (whole a₀)
-  unfolding Goes
-  pads_stopped h = go p t (put_stopped t p (whole (pads lvl (pads_by placing ptr_sz s (end - s)))) h)
-
+module _ (t₀ : List ℕ) (at : Placed) (a₀ : List ℕ) (placing : Bool) (ptr_sz lvl s end : ℕ) (p : Placed) (t : List ℕ) (go : Goes t₀ at a₀ t p (pads lvl (pads_by placing ptr_sz s (end - s)))) where
   pub pads_end : end ≤ s → put_out p t ≡ put_text t₀ at (whole a₀)
   unfolding Goes pads
   pads_end h =
@@ -111,7 +108,7 @@ module _ (t₀ : List ℕ) (at : ℕ) (a₀ : List ℕ) (placing : Bool) (ptr_sz
     pub pads_some : end - (s + x.width) < end - s
     pads_some = omega (arith, pad_fits.0, pad_fits.1, same_width)
 
-    pub pads_more : (q : ℕ) (u : List ℕ) → put_out q u ≡ put_text t p (whole (pad_line lvl (pad_is x)))
+    pub pads_more : (q : Placed) (u : List ℕ) → put_out q u ≡ put_text t p (whole (pad_line lvl (pad_is x)))
         → Goes t₀ at a₀ u q (pads lvl (pads_by placing ptr_sz (s + x.width) (end - (s + x.width))))
     unfolding Goes pads pad_line
     pads_more q u e r v f =
@@ -143,14 +140,14 @@ module _ (placing : Bool) (ptr_sz start bit_size gap a : ℕ) where
       go true e = rw e
       go false e = rw e
 
-  module _ (lvl : ℕ) (t : List ℕ) (at : ℕ) where
+  module _ (lvl : ℕ) (t : List ℕ) (at : Placed) where
     pub gap_natural : bit_size ≡ 0 → gap < a * 8 → put_out at t ≡ put_text t at (whole (pads lvl (pads_before placing ptr_sz start bit_size gap a)))
     unfolding pads natural
     gap_natural z h =
         let q : (eqb bit_size 0 && ltb gap (a * 8)) ≡ true = rw (z, lt-ltb gap (a * 8) h) in
         put_empty t at ∙ ap (λ (ps : List Pad). put_text t at (whole (pads lvl ps))) (sym (gap_is ∙ ap (λ (x : Bool). natural x (pads_by placing ptr_sz start gap)) q))
 
-    module _ (from end r : ℕ) (u : List ℕ) (ef : from ≡ start) (ee : end ≡ from + gap) (e : put_out r u ≡ put_text t at (whole (pads lvl (pads_by placing ptr_sz from (end - from))))) where
+    module _ (from end : ℕ) (r : Placed) (u : List ℕ) (ef : from ≡ start) (ee : end ≡ from + gap) (e : put_out r u ≡ put_text t at (whole (pads lvl (pads_by placing ptr_sz from (end - from))))) where
       put_all : (eqb bit_size 0 && ltb gap (a * 8)) ≡ false → put_out r u ≡ put_text t at (whole (pads lvl (pads_before placing ptr_sz start bit_size gap a)))
       unfolding natural
       put_all q =
@@ -202,7 +199,7 @@ module _ (placing : Bool) (ptr_sz : ℕ) (is_struct : Bool) (sz offset lvl i : �
         ap (λ (ps : List Pad). pads lvl (placed_pads (8 * sz - offset) ptr_sz offset (8 * sz - offset)) ++ own_line i ps) (sym e)
         ∙ ap (tail_text lvl i) (sym tail_is)
 
-    pub tail_put : (t : List ℕ) (at q : ℕ) (u : List ℕ) (r : ℕ) (v : List ℕ) (end : ℕ) → end ≡ sz * 8 → offset < end
+    pub tail_put : (t : List ℕ) (at q : Placed) (u : List ℕ) (r : Placed) (v : List ℕ) (end : ℕ) → end ≡ sz * 8 → offset < end
         → put_out q u ≡ put_text t at (whole (pads lvl (pads_by placing ptr_sz offset (end - offset)))) → put_out r v ≡ put_text u q (whole (lone_line i))
         → put_out r v ≡ put_text t at (whole (tail_text lvl i (tail_pads placing ptr_sz is_struct sz offset)))
     unfolding pads_by

@@ -12,10 +12,8 @@ use Rattle.spec_bytes.specs.words.Words.{get_word}
 use Rattle.spec_c_dumper.specs.rules.Names.{Names}
 use Rattle.spec_c_dumper.specs.rules.Machine.{Sess, single}
 use Rattle.spec_opening.specs.Causes.{opening_number}
-use Rattle.spec_session.specs.declared.session.Answer.{Answer}
-use Rattle.spec_session.specs.declared.session.Answer.TheVariants.{Accepted, Refused}
+use Rattle.spec_session.specs.session.Answers.{Answer, Accepted, Refused, number_of, value_of, answer_of}
 use Rattle.spec_session.specs.declared.session.Session.{Session}
-use Rattle.spec_session.specs.session.Answers.{number_of, value_of, answer_of}
 use Rattle.spec_session.specs.session.Turns.{Call, call_of}
 use Rattle.spec_session.specs.calls.Calls.{type_call, types_call}
 use Rattle.spec_session.specs.calls.Lists.{ids_in, then_next, list_from, count_in}

@@ -16,9 +16,8 @@ use Rattle.spec_opening.proofs.Claims.{sound_none, cause_1}
 use Rattle.spec_opening.proofs.ReadBack.{header_ok, types_ok, section_short, order_ok}
 use Rattle.spec_opening.proofs.Index.{types_few}
 use Rattle.spec_opening.proofs.Sums.{enumerators_few}
-use Rattle.spec_session.specs.declared.session.Answer.TheVariants.{Accepted}
+use Rattle.spec_session.specs.session.Answers.{Accepted, number_of, value_of, answer_of}
 use Rattle.spec_session.specs.declared.session.Session.{Session}
-use Rattle.spec_session.specs.session.Answers.{number_of, value_of, answer_of}
 use Rattle.spec_session.specs.session.Turns.{Call}
 use Rattle.spec_session.specs.calls.Calls.{opened_call, open_call}
 use Rattle.spec_session.proofs.calls.Laws.{opens_sound, opens_refused}

@@ -4,9 +4,8 @@ use mathlib.Core.Path.{◌≡◌, refl, ap, ◌∙◌}
 use mathlib.Core.Bool.{false}
 use mathlib.Core.List.{List, [], ◌∷◌}
 use lib.ListN.{length, take, drop}
-use Rattle.spec_session.specs.declared.session.Answer.TheVariants.{Refused}
+use Rattle.spec_session.specs.session.Answers.{Refused, number_of, answer_of}
 use Rattle.spec_session.specs.declared.session.Session.{Session}
-use Rattle.spec_session.specs.session.Answers.{number_of, answer_of}
 use Rattle.spec_session.specs.session.Turns.{Call, call_of, unchanged, is_current}
 use Rattle.spec_session.specs.calls.Calls.{type_call, types_call}
 use Rattle.spec_session.proofs.calls.Claims.{type_not_current, types_not_current, closed_stays}

@@ -20,9 +20,8 @@ use Rattle.spec_opening.specs.Described.{table_in}
 use Rattle.spec_opening.specs.Table.{types_of, enumerators_of}
 use Rattle.spec_opening.specs.Opened.{refused, opened as soundly, work_of}
 use Rattle.spec_opening.specs.Causes.{opening_number}
-use Rattle.spec_session.specs.declared.session.Answer.{Answer as Told}
+use Rattle.spec_session.specs.session.Answers.{Answer as Told, number_of, value_of, answer_of}
 use Rattle.spec_session.specs.declared.session.Session.{Session}
-use Rattle.spec_session.specs.session.Answers.{number_of, value_of, answer_of}
 use Rattle.spec_session.specs.session.Turns.{Call, Reach, reached, refused_by, is_current, settled}
 use Rattle.spec_session.specs.calls.Calls.{opened_call, open_call, types_call}
 use Rattle.spec_session.proofs.calls.Laws.{opens_sound, opens_refused}
@@ -33,12 +32,13 @@ use Rattle.proof_demands.specs.demands.Table.{names_in}
 use Rattle.proof_demands.specs.demands.Session.{After, after_open, Tells}
 use Rattle.proof_demands.specs.demands.Demands.{Lent}
 use Rattle.proof_demands.proofs.demands.Demands.{open_number, delivered}
-use Rattle.btfdump_run.specs.printed.Printed.{never_opened, refused_line, Shown, shown_to, line_shown, shown, ran_all, ran_opened, ran_on}
+use Rattle.std.specs.Prelude.{IsSomeAnd}
+use Rattle.btfdump_run.specs.printed.Printed.{never_opened, refused_line, Shown, shown_to, printed, line_shown, shown, ran_all, ran_opened, ran_on}
 use Rattle.btfdump_run.proofs.printed.Laws.{line_fits}
 use Rattle.proof_calls.proofs.described.Table.{over_described}
 use Rattle.proof_calls.proofs.program.Stored.{read_types}
 use Rattle.proof_calls.proofs.program.Program.{prints_of, asked, program_is, program_text, program_refused}
-use Rattle.proof_calls.specs.program.Claims.{number, table, out, Runs}
+use Rattle.proof_calls.specs.program.Claims.{number, table, Runs}
 
 -- ---- the line of a refusal
 
@@ -72,7 +72,7 @@ program_described s y ok =
 
 -- what is shown lies in the slice, and is this text
 abbrev Shows : List ℕ → Shown → Type 0
-Shows x p = (p.len ≤ length p.text) × (take p.len p.text ≡ x)
+Shows x p = IsSomeAnd p.len (λ n. n ≤ length p.text) × (printed p ≡ x)
 
 -- a slice that has room for the line
 line_shows : (t : List ℕ) (n : ℕ) → length t ≡ 65536 → Shows (refused_line n) (line_shown t n)
@@ -182,7 +182,7 @@ module _ (s work text : List ℕ) (ew : length work ≡ 65536) (et : length text
       opens_not : open_call never_opened s work text 8 0 ≡ c (opening_number 8 s (length work))
       opens_not = ap (opened_call never_opened (length s) (length work) 8 0) (opens_refused 8 0 s work text (ne_eqb (opening_number 8 s (length work)) 0 (λ e. omega (arith, its_number, e))))
 
-  ran : (k : ℕ) → number s ≡ k → (ran_on s work text).out.len ≤ length (ran_on s work text).out.text
+  ran : (k : ℕ) → number s ≡ k → IsSomeAnd (ran_on s work text).out.len (λ n. n ≤ length (ran_on s work text).out.text)
   ran zero z = (ran_open z).0
   ran (suc k) z = (ran_not k z).0
 

@@ -4,9 +4,7 @@ use Rattle.std.specs.Prelude.{ℕ, zero, suc, ◌-◌, ◌≡◌, List, [], ◌�
 use Rattle.spec_c_dumper.specs.rules.Machine.{Req, one}
 use Rattle.spec_type_table.specs.declared.types.TypeTable.{TypeTable}
 use Rattle.spec_session.specs.declared.session.Session.{Session}
-use Rattle.spec_session.specs.declared.session.Answer.{Answer}
-use Rattle.spec_session.specs.declared.session.Answer.TheVariants.{Accepted, Refused}
-use Rattle.spec_session.specs.session.Answers.{number_of}
+use Rattle.spec_session.specs.session.Answers.{Answer, Accepted, Refused, number_of}
 use Rattle.spec_session.specs.session.Turns.{Call, table_for, Reach, reached, refused_by, visits_in}
 use Rattle.spec_session.specs.calls.Calls.{type_call, types_call}
 use Rattle.spec_session.specs.calls.Lists.{list_call}

@@ -1,7 +1,7 @@
 -- What the program prints is what the rules say: `ran_on` of crates/btfdump_run, which the program's `run` promises, against `program` of
 -- spec_c_dumper/specs/needs, of which the samples and the stored programs are proved. Statement only. proofs/Claims.antt has the proof,
 -- of every section. It assumes nothing.
-use Rattle.std.specs.Prelude.{ℕ, suc, ◌≤◌, ◌≡◌, true, false, List, length, take}
+use Rattle.std.specs.Prelude.{ℕ, suc, ◌≤◌, ◌≡◌, true, false, List, length, IsSomeAnd}
 use Rattle.spec_linux_btf.specs.Reading.{Bytes}
 use Rattle.spec_c_dumper.specs.rules.Machine.{Answer, every}
 use Rattle.spec_c_dumper.specs.rules.Names.{Names}
@@ -13,7 +13,7 @@ use Rattle.spec_c_dumper.specs.needs.Lists.{Ls}
 use Rattle.spec_c_dumper.specs.needs.Session.{Known, text_of, machine, opened, program}
 use Rattle.proof_examples.specs.vectors.Reading.{types_of as read_types}
 use Rattle.proof_demands.specs.demands.Table.{opened_table}
-use Rattle.btfdump_run.specs.printed.Printed.{refused_line, ran_on}
+use Rattle.btfdump_run.specs.printed.Printed.{refused_line, printed, ran_on}
 
 -- "pointer size 8, unions under their own word, with 16,384 work words": what opening says, 0 where it accepts, and the table that it
 -- then gives
@@ -29,11 +29,11 @@ requested s = every (machine (table s)) (table_of (table s)) 65536 (opened (tabl
 
 -- what is written of the section s, with this work and text at the start: the first bytes of the text, as many as `run` says
 abbrev pub out : List ℕ → List ℕ → List ℕ → List ℕ
-out s work text = take (ran_on s work text).out.len (ran_on s work text).out.text
+out s work text = printed (ran_on s work text).out
 
 pub record Prints (s work text : List ℕ) : Type 0 where
-  -- the text has that many bytes
-  pub inside : (ran_on s work text).out.len ≤ length (ran_on s work text).out.text
+  -- what is printed fits, and the text has that many bytes
+  pub inside : IsSomeAnd (ran_on s work text).out.len (λ n. n ≤ length (ran_on s work text).out.text)
   -- a section that opening accepts: what the rules print of its table
   pub rules : number s ≡ 0 → out s work text ≡ program (table s)
   -- and so of the types that it describes, and of those that crates/proof_examples reads in the bytes of a stored program

@@ -8,8 +8,10 @@ use mathlib.Core.List.Memᴰ
 use mathlib.Core.List.{List}
 use lib.ListN.{length}
 use lib.Dec.{leb}
+use Rattle.std.specs.Prelude.{Ok}
 use Rattle.spec_bytes.proofs.words.Laws.{get_put_other}
-use Rattle.spec_bytes.specs.text.Text.{Text, whole, cut, bytes, Out as Put, done, stopped, put_text}
+use Rattle.spec_bytes.specs.text.Text.{Text, whole, cut, bytes}
+use Rattle.spec_bytes.specs.text.Placed.{Out as Put, done, stopped, put_text}
 use Rattle.spec_c_dumper.specs.rules.Order.{Table as Types, Res}
 use Rattle.spec_c_dumper.specs.rules.Machine.{Out, wrote, stuck, Machine, MLawful, OrderKeeps, obind, eeach, emit, Sess, Answer, emitted, ordered, ordering, shut}
 use Rattle.spec_c_dumper.specs.rules.Types.{Btf as Rules, table_of}
@@ -125,9 +127,9 @@ module _ (b : TypeTable) (e : ℕ) (s w : List ℕ) (I : Indexed b e s w) (Z : S
     PairNow v u = Pair b e s w Z room N R v u
 
     line_same : (mk : List ℕ → Piece) (m : Sheet) (t : State) (len : ℕ) {s₁ : Said (List ℕ)} {s₂ : Said (Minded Names Table)} → RelSaid PairNow s₁ s₂
-        → SameOut (sheet_of m.len (put_said m.text m.at s₁)) (put_line mk t (line_of t.room len s₂))
+        → SameOut (sheet_of m.len (put_said m.text (Ok m.at) s₁)) (put_line mk t (line_of t.room len s₂))
     unfolding sheet_of put_said with_names line_of fitting
-    line_same mk m t len (same v u x p) = by (put_text m.text m.at x) x (leb (len + length (bytes x)) (smaller t.room 1073741824))
+    line_same mk m t len (same v u x p) = by (put_text m.text (Ok m.at) x) x (leb (len + length (bytes x)) (smaller t.room 1073741824))
       where
         by : (o : Put) (y : Text) (d : Bool) → SameOut (sheet_of m.len (with_names v o)) (put_line mk t (elim d [ true ↦ fitting len u y | false ↦ cannot 17 ]))
         by o y false = none_said (sheet_of m.len (with_names v o)) 17

@@ -9,9 +9,11 @@ use lib.ListN.{length, take, drop, length-append, length-drop}
 use lib.Seq.{length-take-le, take-append_seam}
 use lib.Dec.{leb, eqb, ltb}
 use borrow.Author.Tests.{le-leb, lt-leb, leb-true}
+use Rattle.std.specs.Prelude.{Ok}
 use Rattle.spec_bytes.specs.words.Words.{get_word}
-use Rattle.spec_bytes.specs.text.Text.{Text, whole, cut, bytes, place, Out as Put, stopped, written, put_text}
-use Rattle.spec_c_dumper.specs.rules.Place.{Wrote, with_names, put_said}
+use Rattle.spec_bytes.specs.text.Text.{Text, whole, cut, bytes}
+use Rattle.spec_bytes.specs.text.Placed.{place, Out as Put, stopped, written, put_text}
+use Rattle.spec_c_dumper.specs.rules.Place.{with_names, put_said}
 use Rattle.spec_c_dumper.specs.rules.Writer.{Said, said, said_names}
 use Rattle.spec_c_dumper.specs.rules.Names.{Names, Resolved, Naming}
 use Rattle.spec_c_dumper.specs.rules.Types.{BtfType, Btf as Rules}
@@ -113,8 +115,9 @@ free_emit : (types k : ℕ) → Free types (k * 16 + 13)
 free_emit types k = record { no_count = λ c. count_form types c (k * 16 + 13) (λ q. omega arith) (λ g q. omega arith); no_version = λ id q. omega arith; no_visits = λ q. omega arith; no_align = λ id q. omega arith }
 
 -- ---- the text
-leb_front : (f a c : ℕ) → leb (f + a) (f + c) ≡ leb a c
-leb_front f a c = ⊎_elim (λ l. le-leb (f + a) (f + c) (omega arith) ∙ sym (le-leb a c l)) (λ l. lt-leb (f + a) (f + c) (omega arith) ∙ sym (lt-leb a c l)) (le_or_lt a c)
+-- room for n bytes more: f before the text, a in it, and c in all
+room_left : (f a n c : ℕ) → a ≤ c → leb (f + a + n) (f + c) ≡ leb n (c - a)
+room_left f a n c k = ⊎_elim (λ l. le-leb (f + a + n) (f + c) (omega arith) ∙ sym (le-leb n (c - a) l)) (λ l. lt-leb (f + a + n) (f + c) (omega arith) ∙ sym (lt-leb n (c - a) l)) (le_or_lt n (c - a))
 
 module _ (text : List ℕ) (at : ℕ) (a : List ℕ) (l : at + length a ≤ length text) where
   head_length : length (take at text ++ a) ≡ at + length a
@@ -164,26 +167,18 @@ module _ (b : TypeTable) (e : ℕ) (s w : List ℕ) (I : Indexed b e s w) (mk : 
   abbrev line_by : Names → Text → Bool → Line (Known Names)
   line_by u' x d = elim d as (λ z. Line (Known Names)) [ true ↦ fitting (length front + at) u' x | false ↦ cannot 17 ]
 
-  put_said_lem : (v' : List ℕ) (x : Text) → put_said text at (said v' x) ≡ with_names v' (put_by x (leb (at + length (bytes x)) (length text)))
-  unfolding put_said put_text
-  put_said_lem v' x =
-      ap (λ (d : Bool). with_names v' (elim d as (λ z. Put) [ false ↦ stopped (at - (length text + 1)) | true ↦ put_by x (leb (at + length (bytes x)) (length text)) ]))
-      (le-leb at (length text) sh.inside)
-
-  line_said : (u' : Names) (x : Text) → line_of t.room (length front + at) (said u' x) ≡ line_by u' x (leb (at + length (bytes x)) (length text))
+  line_said : (u' : Names) (x : Text) → line_of t.room (length front + at) (said u' x) ≡ line_by u' x (leb (length (bytes x)) (length text - at))
   unfolding line_of
   line_said u' x =
       ap (λ (n : ℕ). line_by u' x (leb (length front + at + length (bytes x)) n)) (sym sh.room)
-      ∙ ap (λ (n : ℕ). line_by u' x (leb n (length front + length text))) (omega arith)
-      ∙ ap (line_by u' x) (leb_front (length front) (at + length (bytes x)) (length text))
+      ∙ ap (line_by u' x) (room_left (length front) at (length (bytes x)) (length text) sh.inside)
 
   pub one_line : (s₁ : Said (List ℕ)) (s₂ : Said Names) → RelSaid (Alike b e s w) s₁ s₂ → btf_of b s (said_names s₁) ≡ btf_of b s v → ((i : ℕ) → Free b.types i → get_word (said_names s₁) i ≡ get_word v i) → Minds (btf_of b s w) (said_names s₁)
-      → BothLine b e s w front t.room len (put_said text at s₁) (put_line mk t (line_of t.room (length front + at) s₂))
-  unfolding said_names with_names written fitting bytes
+      → BothLine b e s w front t.room len (put_said text (Ok at) s₁) (put_line mk t (line_of t.room (length front + at) s₂))
+  unfolding said_names with_names written fitting bytes put_said put_text
   one_line _ _ (same v' u' x r) tab k mem =
-      subst (λ (o : Wrote (List ℕ)). BothLine b e s w front t.room len o (put_line mk t (line_of t.room (length front + at) (said u' x)))) (sym (put_said_lem v' x))
-      (subst (λ (o : Line (Known Names)). BothLine b e s w front t.room len (with_names v' (put_by x (leb (at + length (bytes x)) (length text)))) (put_line mk t o)) (sym (line_said u' x))
-      (go x (leb (at + length (bytes x)) (length text)) refl))
+      subst (λ (o : Line (Known Names)). BothLine b e s w front t.room len (with_names v' (put_by x (leb (length (bytes x)) (length text - at)))) (put_line mk t o)) (sym (line_said u' x))
+      (go x (leb (length (bytes x)) (length text - at)) refl)
     where
       fits : (x : Text) → at + length (bytes x) ≤ length text → BothLine b e s w front t.room len (with_names v' (written text at x)) (put_line mk t (fitting (length front + at) u' x))
       fits (whole a) l = lines_on (place text at a) (at + length a) v' _ (bears_names v' u' (length front + at + length a) (t.pieces ++ (mk a ∷ [])) r tab k mem) (record {
@@ -194,9 +189,9 @@ module _ (b : TypeTable) (e : ℕ) (s w : List ℕ) (I : Indexed b e s w) (mk : 
       }) refl
       fits (cut a c) l = lines_stop c
 
-      go : (x : Text) (d : Bool) → leb (at + length (bytes x)) (length text) ≡ d
+      go : (x : Text) (d : Bool) → leb (length (bytes x)) (length text - at) ≡ d
           → BothLine b e s w front t.room len (with_names v' (put_by x d)) (put_line mk t (line_by u' x d))
-      go x true q = fits x (leb-true (at + length (bytes x)) (length text) q)
+      go x true q = let k : length (bytes x) ≤ length text - at = leb-true (length (bytes x)) (length text - at) q in fits x (omega (arith, k, sh.inside))
       go x false q = lines_stop 17
 
 -- ---- the names read no word of the memory
@@ -252,29 +247,29 @@ module _ (b : TypeTable) (e : ℕ) (s w : List ℕ) (I : Indexed b e s w) (Z : S
       both_said (Alike b e s w) s₁ s₂ (alike_agree b e s w Z.some (said_names s₁) (said_names s₀) (said_names s₂) y.words (rel_names (Alike b e s w) r)) (y.text ∙ rel_text (Alike b e s w) r)
 
   definition_line : (mk : List ℕ → Piece) → ((a : List ℕ) → text_of (mk a ∷ []) ≡ a)
-      → BothLine b e s w front t.room len (put_said text at defined) (put_line mk t (line_of t.room t.known.text_len (definition N B x type t.known.names)))
+      → BothLine b e s w front t.room len (put_said text (Ok at) defined) (put_line mk t (line_of t.room t.known.text_len (definition N B x type t.known.names)))
   definition_line mk q =
-      subst (λ (n : ℕ). BothLine b e s w front t.room len (put_said text at defined) (put_line mk t (line_of t.room n (definition N B x type t.known.names)))) sh.place
+      subst (λ (n : ℕ). BothLine b e s w front t.room len (put_said text (Ok at) defined) (put_line mk t (line_of t.room n (definition N B x type t.known.names)))) sh.place
       (one_line b e s w I mk q v len t h front text at sh defined (definition N B x type t.known.names)
       (through defined (definition (work_naming b) B x type v) (definition N B x type t.known.names) defined_says
       (rel_definition (Alike b e s w) (NameFits b s w) (FitsValue b s w) (work_naming b) N R B (fits_table b s w) x type (fits_table b s w x) v t.known.names h.names))
       (definition_table b s B x type v) (λ i z. definition_free b i z B x type v) defined_says.memory)
 
   -- a composite's definition, and an enum's or a forward's
-  pub body_line : BothLine b e s w front t.room len (put_said text at defined) ((machine_by N B).body t x)
+  pub body_line : BothLine b e s w front t.room len (put_said text (Ok at) defined) ((machine_by N B).body t x)
   body_line = definition_line (defines x) (text_defines x)
 
-  pub leaf_line : BothLine b e s w front t.room len (put_said text at defined) ((machine_by N B).leaf_line t x)
+  pub leaf_line : BothLine b e s w front t.room len (put_said text (Ok at) defined) ((machine_by N B).leaf_line t x)
   leaf_line = definition_line other text_other
 
   -- a forward line, and a typedef
-  pub forward_line : BothLine b e s w front t.room len (put_said text at forwarded) ((machine_by N B).fwd_line t x)
+  pub forward_line : BothLine b e s w front t.room len (put_said text (Ok at) forwarded) ((machine_by N B).fwd_line t x)
   forward_line =
-      subst (λ (n : ℕ). BothLine b e s w front t.room len (put_said text at forwarded) (put_line other t (line_of t.room n (forward N B x type t.known.names)))) sh.place
+      subst (λ (n : ℕ). BothLine b e s w front t.room len (put_said text (Ok at) forwarded) (put_line other t (line_of t.room n (forward N B x type t.known.names)))) sh.place
       (one_line b e s w I other text_other v len t h front text at sh forwarded (forward N B x type t.known.names)
       (through forwarded (forward (work_naming b) B x type v) (forward N B x type t.known.names) forwarded_says
       (rel_forward (Alike b e s w) (NameFits b s w) (FitsValue b s w) (work_naming b) N R B (fits_table b s w) x type (fits_table b s w x) v t.known.names h.names))
       (forward_table b s B x type v) (λ i z. forward_free b i z B x type v) forwarded_says.memory)
 
-  pub alias_line : BothLine b e s w front t.room len (put_said text at forwarded) ((machine_by N B).alias_line t x)
+  pub alias_line : BothLine b e s w front t.room len (put_said text (Ok at) forwarded) ((machine_by N B).alias_line t x)
   alias_line = forward_line

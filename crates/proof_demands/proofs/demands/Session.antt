@@ -12,7 +12,7 @@ use lib.Seq.{length-take-le, take_at, take-take, take-append-le, take-append-add
 use lib.Dec.{eqb, ltb}
 use borrow.Author.Tests.{le-leb, lt-leb, eq-eqb, ne_eqb, lt-ltb, le-ltb}
 use borrow.Rule.Slice.PartMut.{mid_len}
-use Rattle.spec_bytes.specs.text.Text.{place}
+use Rattle.spec_bytes.specs.text.Placed.{place}
 use Rattle.spec_bytes.proofs.words.Laws.{le_or_lt}
 use Rattle.spec_c_dumper.specs.rules.Order.{Table}
 use Rattle.spec_c_dumper.specs.rules.Machine.{Out, stuck, Machine, Sess, Answer, ordered, ordering, gate, single, onward, from, every, Req, one, all, serve, run}
@@ -29,14 +29,13 @@ use Rattle.spec_opening.proofs.ReadBack.{work_length}
 use Rattle.spec_session.specs.emission.Sheet.{Sheet, work_machine}
 use Rattle.spec_c_dumper.specs.rules.Request.{dumped}
 use Rattle.spec_session.specs.declared.session.Session.{Session}
-use Rattle.spec_session.specs.session.Answers.{number_of, value_of, answer_of}
+use Rattle.spec_session.specs.session.Answers.{Refused, number_of, value_of, answer_of}
 use Rattle.spec_session.specs.session.Turns.{Call, is_current, Reach, reached, refused_by, then_zeros, settled, with_text, table_for, call_of, visits_in}
 use Rattle.spec_session.specs.calls.Calls.{opened_call, open_call, limit_of, came_to, lent_to, requested, onward as go_on, requested_from, type_call, types_call}
 use Rattle.spec_session.specs.calls.Lists.{then_next as counted_call, list_from, list_call}
 use Rattle.spec_session.proofs.calls.Lists.{counted_goes, counted_stops, type_single, list_counts}
 use Rattle.spec_session.proofs.calls.Fair.{placed, fair_request}
 use Rattle.spec_session.proofs.calls.Laws.{limit_short, limit_long, limit_between, stuck_listed, opens_sound}
-use Rattle.spec_session.specs.declared.session.Answer.TheVariants.{Refused}
 use Rattle.spec_session.proofs.calls.Claims.{number_is, value_is, type_settles, types_settle, type_not_below, type_not_current, types_not_current, closed_stays, type_current}
 use Rattle.spec_c_dumper.specs.needs.Lists.{Ls, afresh}
 use Rattle.spec_c_dumper.specs.needs.Session.{Known, text_of, opened}

@@ -11,8 +11,7 @@ use Rattle.spec_bytes.proofs.words.Laws.{le_or_lt}
 use Rattle.spec_c_dumper.specs.rules.Machine.{Req, one}
 use Rattle.spec_opening.specs.Causes.{opening_number}
 use Rattle.spec_session.specs.declared.session.Session.{Session}
-use Rattle.spec_session.specs.declared.session.Answer.TheVariants.{Refused}
-use Rattle.spec_session.specs.session.Answers.{number_of, value_of, answer_of}
+use Rattle.spec_session.specs.session.Answers.{Refused, number_of, value_of, answer_of}
 use Rattle.spec_session.specs.session.Turns.{Call, call_of, is_current, unchanged}
 use Rattle.spec_session.specs.calls.Calls.{type_call}
 use Rattle.spec_session.specs.calls.Lists.{then_next, list_from}

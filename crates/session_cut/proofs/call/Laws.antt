@@ -20,15 +20,14 @@ use Rattle.spec_opening.specs.Table.{types_of, enumerators_of, empty_index, inde
 use Rattle.spec_opening.specs.Causes.{cause2, cause3, cause4, cause5, cause6, table_of, first_of}
 use Rattle.spec_opening.proofs.Order.{NoneHolds, first_none}
 use Rattle.spec_opening.proofs.Opens.{section_is}
-use Rattle.spec_session.specs.declared.session.Answer.TheVariants.{Refused}
+use Rattle.spec_session.specs.session.Answers.{Refused, alone, answer_of}
 use Rattle.spec_session.specs.declared.session.Session.{Session}
-use Rattle.spec_session.specs.session.Answers.{answer_of}
 use Rattle.session_cut_marks.specs.marks.Marks.{all_zero, ids_of}
 use Rattle.session_cut.specs.writer.Bytes.{wrote_of, kept_written}
 use Rattle.spec_cut.specs.section.Section.{any_past, cut_number, cut_output}
 use Rattle.session_cut.proofs.written.Claims.{twenty_three, cut_length, kept_written_lem}
 use Rattle.session_cut.specs.call.Calls.{cut_of, passes, is_open_on, section_for, cut_by, cut_call}
-use Rattle.session_cut.specs.call.Code.{Checked, unfit, fit, checked_out, checked_of, answer_to, answered}
+use Rattle.session_cut.specs.call.Code.{Checked, unfit, fit, checked_out, checked_of, answered}
 use Rattle.std.specs.Option.{ok_or}
 use Rattle.std.specs.List.{list_any, range_with_len}
 use Rattle.std.proofs.Common.{Option, Some, None, Result, Ok, Err}
@@ -66,8 +65,8 @@ fit_index unfit = []
 fit_index (fit n start) = start
 
 -- the refusal of the writer
-answered_to : (w : Option ℕ) (out : List ℕ) → cut_of (answer_to (ok_or w OutputShort)) out ≡ answered (wrote_of w out)
-unfolding answer_to answered
+answered_to : (w : Option ℕ) (out : List ℕ) → cut_of (alone (ok_or w OutputShort)) out ≡ answered (wrote_of w out)
+unfolding answered
 answered_to None out = refl
 answered_to (Some n) out = refl
 
@@ -335,10 +334,10 @@ module _ (S : Session) (s given out : List ℕ) where
 
           -- THE CALL: the theorem of `session_cut::written`
           pub cut_is : r ≡ false → Bytes s → (b : TypeTable) → b ≡ btf_of s S.pointer_size 0 n → (w : Option ℕ) (out' : List ℕ)
-              → wrote_of w out' ≡ kept_written b s start (ids_of b s start given all_zero) out → (o : Result ℕ Refusal) → o ≡ ok_or w OutputShort → cut_of (answer_to o) out' ≡ cut_call S s given out
+              → wrote_of w out' ≡ kept_written b s start (ids_of b s start given all_zero) out → (o : Result ℕ Refusal) → o ≡ ok_or w OutputShort → cut_of (alone o) out' ≡ cut_call S s given out
           unfolding passes cause2 cause3 cause4 cause5 table_of
           cut_is e y b eb w out' ew o eo =
-              ap (λ (k : Result ℕ Refusal). cut_of (answer_to k) out') eo
+              ap (λ (k : Result ℕ Refusal). cut_of (alone k) out') eo
               ∙ answered_to w out'
               ∙ ap answered ew
               ∙ (λ i. answered (kept_written (table_is i) s (index_of_lem i) (ids_of (table_is i) s (index_of_lem i) given all_zero) out))

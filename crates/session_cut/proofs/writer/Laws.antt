@@ -5,15 +5,17 @@ use native.Mathlib.Numerals.{add-one}
 use native.Mathlib.Decide.{ℕ_discrete}
 use mathlib.Core.Path.{◌≡◌, refl, sym, ◌∙◌, ap, subst}
 use Rattle.std.specs.Int.{to_be_bytes, to_le_bytes}
+use Rattle.std.specs.Prelude.{Ok, Err, IsErrAnd}
 use mathlib.Core.Bool.{Bool, true, false, not, true≢false}
 use Rattle.std.proofs.Common.{Option, Some, None, unwrap_or}
 use mathlib.Core.List.{List, [], ◌∷◌, ◌++◌}
 use lib.ListN.{length, get_or, drop, length-append}
 use lib.Dec.{eqb}
 use mir.Syntax.{w32}
-use mir.Val.{Fits}
 use borrow.Author.Tests.{eq-eqb, ne_eqb, lt-ltb, le-ltb}
-use Rattle.spec_bytes.specs.text.Text.{whole, bytes, put_out, written, put_text}
+use Rattle.spec_bytes.specs.declared.refusal.Refusal.{Refusal}
+use Rattle.spec_bytes.specs.text.Text.{whole, bytes}
+use Rattle.spec_bytes.specs.text.Placed.{Placed, put_out, written, put_text}
 use Rattle.spec_bytes.proofs.text.TextLaws.{put_fits, went, put_seq, put_empty}
 use Rattle.spec_c_dumper.specs.rules.Types.{is_empty}
 use Rattle.spec_type_table.specs.declared.types.TypeTable.{TypeTable}
@@ -32,7 +34,8 @@ use Rattle.session_cut_marks.specs.interned.Right.{all_bases, Right, StringKept}
 use Rattle.session_cut_marks.proofs.interned.Right.{table_over, table_length, table_bases}
 use Rattle.session_cut_marks.proofs.interned.Places.{base_up}
 use Rattle.session_cut_marks.proofs.interned.Found.{found_place, first_is, new_place}
-use Rattle.session_cut.specs.writer.Bytes.{word_bytes, head_bytes, type_size, types_size, new_word, record_bytes, type_bytes, types_bytes, all_bytes, sought, Wrote, wrote_of, fitting_written, kept_written}
+use Rattle.session_cut.specs.writer.Bytes.{word_bytes, magic_bytes, head_bytes, type_size, types_size, new_word, record_bytes, type_bytes, types_bytes, all_bytes, sought, Wrote, wrote_of, fitting_written, kept_written}
+use Rattle.session_cut.proofs.writer.Stops.{loop_stops}
 use Rattle.session_cut.proofs.writer.Sizes.{head_length, types_length}
 
 none_some : {p : ℕ} → None ≡ Some p → ⊥
@@ -218,38 +221,48 @@ module _ (b : TypeTable) (s : List ℕ) where
           unfolding new_word
           word_plain z = f ∙ rw (ne_eqb (role (e % 32) j) 1 (λ u. n (k ∙ u)), new_word, ne_eqb (role (e % 32) j) 2 (λ u. z (k ∙ u)))
 
-      pub no_words : (t : List ℕ) (at e : ℕ) → put_out at t ≡ put_text t at (whole (record_bytes b s start ids bases e 0))
+      pub no_words : (t : List ℕ) (at : Placed) (e : ℕ) → put_out at t ≡ put_text t at (whole (record_bytes b s start ids bases e 0))
       unfolding record_bytes
       no_words t at e = put_empty t at
 
-      pub more_words : (t : List ℕ) (at e j p : ℕ) (u : List ℕ) (r : ℕ) (u' : List ℕ) (v i : ℕ) → i ≡ j → put_out p u ≡ put_text t at (whole (record_bytes b s start ids bases e j)) → v ≡ new_word b s start ids bases e i
+      pub more_words : (t : List ℕ) (at : Placed) (e j : ℕ) (p : Placed) (u : List ℕ) (r : Placed) (u' : List ℕ) (v i : ℕ) → i ≡ j → put_out p u ≡ put_text t at (whole (record_bytes b s start ids bases e j)) → v ≡ new_word b s start ids bases e i
           → put_out r u' ≡ put_text u p (whole (word_bytes b.big_endian v)) → put_out r u' ≡ put_text t at (whole (record_bytes b s start ids bases e (j + 1)))
       unfolding record_bytes
       more_words t at e j p u r u' v i w h g k = rw add-one (put_seq t at (record_bytes b s start ids bases e j) (word_bytes b.big_endian (new_word b s start ids bases e j)) p u r u' h (k ∙ ap (λ (z : ℕ). put_text u p (whole (word_bytes b.big_endian z))) (g ∙ ap (new_word b s start ids bases e) w)))
 
-      pub all_words : (t : List ℕ) (at e n j p : ℕ) (u : List ℕ) → n ≡ words_in b s e → j ≤ n → n ≤ j → put_out p u ≡ put_text t at (whole (record_bytes b s start ids bases e j))
+      pub words_stop : (t : List ℕ) (at : Placed) (e n j : ℕ) (u : List ℕ) (c : Refusal) → n ≡ words_in b s e → j < n → put_out (Err c) u ≡ put_text t at (whole (record_bytes b s start ids bases e (j + 1)))
+          → (r : Placed) → IsErrAnd r (λ d. d ≡ c) → put_out r u ≡ put_text t at (whole (record_bytes b s start ids bases e (words_in b s e)))
+      unfolding record_bytes
+      words_stop t at e n j u c w l h r k = loop_stops (record_bytes b s start ids bases e) (λ m. word_bytes b.big_endian (new_word b s start ids bases e m)) (λ m. refl) t at c u (j + 1) (words_in b s e) (omega (arith, w, l)) h r k
+
+      pub all_words : (t : List ℕ) (at : Placed) (e n j : ℕ) (p : Placed) (u : List ℕ) → n ≡ words_in b s e → j ≤ n → n ≤ j → put_out p u ≡ put_text t at (whole (record_bytes b s start ids bases e j))
           → put_out p u ≡ put_text t at (whole (record_bytes b s start ids bases e (words_in b s e)))
       all_words t at e n j p u c l g h = let z : j ≡ n = omega (arith, l, g) in h ∙ ap (λ (k : ℕ). put_text t at (whole (record_bytes b s start ids bases e k))) (z ∙ c)
 
-      module _ (t : List ℕ) (at x v : ℕ) (k : v ≡ get_or ids x 0) where
+      module _ (t : List ℕ) (at : Placed) (x v : ℕ) (k : v ≡ get_or ids x 0) where
         pub type_none : v ≡ 0 → put_out at t ≡ put_text t at (whole (type_bytes b s start ids bases x))
         unfolding type_bytes
         type_none z = rw (eq-eqb (get_or ids x 0) 0 (sym k ∙ z), type_bytes) (put_empty t at)
 
-        pub type_is : (v ≡ 0 → ⊥) → (e : ℕ) → e ≡ entry_at b start x → (r : ℕ) (u : List ℕ) → put_out r u ≡ put_text t at (whole (record_bytes b s start ids bases e (words_in b s e))) → put_out r u ≡ put_text t at (whole (type_bytes b s start ids bases x))
+        pub type_is : (v ≡ 0 → ⊥) → (e : ℕ) → e ≡ entry_at b start x → (r : Placed) (u : List ℕ) → put_out r u ≡ put_text t at (whole (record_bytes b s start ids bases e (words_in b s e))) → put_out r u ≡ put_text t at (whole (type_bytes b s start ids bases x))
         unfolding type_bytes
         type_is z e f r u h = rw (ne_eqb (get_or ids x 0) 0 (λ w. z (k ∙ w)), type_bytes) (h ∙ ap (λ (q : ℕ). put_text t at (whole (record_bytes b s start ids bases q (words_in b s q)))) f)
 
-      pub no_types : (t : List ℕ) (at : ℕ) → put_out at t ≡ put_text t at (whole (types_bytes b s start ids bases 0))
+      pub no_types : (t : List ℕ) (at : Placed) → put_out at t ≡ put_text t at (whole (types_bytes b s start ids bases 0))
       unfolding types_bytes
       no_types t at = put_empty t at
 
-      pub more_types : (t : List ℕ) (at x p : ℕ) (u : List ℕ) (r : ℕ) (u' : List ℕ) → put_out p u ≡ put_text t at (whole (types_bytes b s start ids bases x)) → put_out r u' ≡ put_text u p (whole (type_bytes b s start ids bases x))
+      pub more_types : (t : List ℕ) (at : Placed) (x : ℕ) (p : Placed) (u : List ℕ) (r : Placed) (u' : List ℕ) → put_out p u ≡ put_text t at (whole (types_bytes b s start ids bases x)) → put_out r u' ≡ put_text u p (whole (type_bytes b s start ids bases x))
           → put_out r u' ≡ put_text t at (whole (types_bytes b s start ids bases (x + 1)))
       unfolding types_bytes
       more_types t at x p u r u' h g = rw add-one (put_seq t at (types_bytes b s start ids bases x) (type_bytes b s start ids bases x) p u r u' h g)
 
-      pub all_types : (t : List ℕ) (at n x p : ℕ) (u : List ℕ) → n ≡ type_count b → x ≤ n → n ≤ x → put_out p u ≡ put_text t at (whole (types_bytes b s start ids bases x)) → put_out p u ≡ put_text t at (whole (types_bytes b s start ids bases (type_count b)))
+      pub types_stop : (t : List ℕ) (at : Placed) (n x : ℕ) (u : List ℕ) (c : Refusal) → n ≡ type_count b → x < n → put_out (Err c) u ≡ put_text t at (whole (types_bytes b s start ids bases (x + 1)))
+          → (r : Placed) → IsErrAnd r (λ d. d ≡ c) → put_out r u ≡ put_text t at (whole (types_bytes b s start ids bases (type_count b)))
+      unfolding types_bytes
+      types_stop t at n x u c w l h r k = loop_stops (types_bytes b s start ids bases) (type_bytes b s start ids bases) (λ m. refl) t at c u (x + 1) (type_count b) (omega (arith, w, l)) h r k
+
+      pub all_types : (t : List ℕ) (at : Placed) (n x : ℕ) (p : Placed) (u : List ℕ) → n ≡ type_count b → x ≤ n → n ≤ x → put_out p u ≡ put_text t at (whole (types_bytes b s start ids bases x)) → put_out p u ≡ put_text t at (whole (types_bytes b s start ids bases (type_count b)))
       all_types t at n x p u c l g h = let z : x ≡ n = omega (arith, l, g) in h ∙ ap (λ (k : ℕ). put_text t at (whole (types_bytes b s start ids bases k))) (z ∙ c)
 
     -- ---- the length of the types
@@ -301,15 +314,23 @@ module _ (big : Bool) (v : ℕ) (l : v < 4294967296) (w : List ℕ → Type 0) w
   unfolding word_bytes
   word_little e a f h = subst w (f ∙ le_is v l ∙ ap (λ (q : Bool). word_bytes q v) (sym e)) h
 
+-- a part of the header after another
+pub head_put : (big : Bool) (f types strings : ℕ) (t : List ℕ) (p₀ : Placed) (u₀ : List ℕ) (p₁ : Placed) (u₁ : List ℕ) (p₂ : Placed) (u₂ : List ℕ) (p₃ : Placed) (u₃ : List ℕ) (p₄ : Placed) (u₄ : List ℕ) (r : Placed) (v : List ℕ)
+    → put_out p₀ u₀ ≡ put_text t (Ok 0) (whole (magic_bytes big f)) → put_out p₁ u₁ ≡ put_text u₀ p₀ (whole (word_bytes big 24)) → put_out p₂ u₂ ≡ put_text u₁ p₁ (whole (word_bytes big 0))
+    → put_out p₃ u₃ ≡ put_text u₂ p₂ (whole (word_bytes big types)) → put_out p₄ u₄ ≡ put_text u₃ p₃ (whole (word_bytes big types)) → put_out r v ≡ put_text u₄ p₄ (whole (word_bytes big strings))
+    → put_out r v ≡ put_text t (Ok 0) (whole (head_bytes big f types strings))
+unfolding head_bytes
+head_put big f types strings t p₀ u₀ p₁ u₁ p₂ u₂ p₃ u₃ p₄ u₄ r v h₀ h₁ h₂ h₃ h₄ h₅ = put_seq _ _ _ _ _ _ _ _ (put_seq _ _ _ _ _ _ _ _ (put_seq _ _ _ _ _ _ _ _ (put_seq _ _ _ _ _ _ _ _ (put_seq _ _ _ _ _ _ _ _ h₀ h₁) h₂) h₃) h₄) h₅
+
 -- ---- the whole
 module _ (b : TypeTable) (s start ids : List ℕ) where
-  pub all_put : (bases t : List ℕ) (types strings f : ℕ) (p : ℕ) (u : List ℕ) (q : ℕ) (v : List ℕ) (r : ℕ) (w : List ℕ) → f ≡ get_or s 3 0 → put_out p u ≡ put_text t 0 (whole (head_bytes b.big_endian f types strings))
+  pub all_put : (bases t : List ℕ) (types strings f : ℕ) (p : Placed) (u : List ℕ) (q : Placed) (v : List ℕ) (r : Placed) (w : List ℕ) → f ≡ get_or s 3 0 → put_out p u ≡ put_text t (Ok 0) (whole (head_bytes b.big_endian f types strings))
       → put_out q v ≡ put_text u p (whole (types_bytes b s start ids bases (type_count b))) → put_out r w ≡ put_text v q (whole (strings_bytes b s start ids (type_count b)))
-      → put_out r w ≡ put_text t 0 (whole (all_bytes b s start ids bases types strings))
+      → put_out r w ≡ put_text t (Ok 0) (whole (all_bytes b s start ids bases types strings))
   unfolding all_bytes
   all_put bases t types strings f p u q v r w e h g k =
-      put_seq t 0 (head_bytes b.big_endian (get_or s 3 0) types strings ++ types_bytes b s start ids bases (type_count b)) (strings_bytes b s start ids (type_count b)) q v r w
-      (put_seq t 0 (head_bytes b.big_endian (get_or s 3 0) types strings) (types_bytes b s start ids bases (type_count b)) p u q v (h ∙ ap (λ (z : ℕ). put_text t 0 (whole (head_bytes b.big_endian z types strings))) e) g) k
+      put_seq t (Ok 0) (head_bytes b.big_endian (get_or s 3 0) types strings ++ types_bytes b s start ids bases (type_count b)) (strings_bytes b s start ids (type_count b)) q v r w
+      (put_seq t (Ok 0) (head_bytes b.big_endian (get_or s 3 0) types strings) (types_bytes b s start ids bases (type_count b)) p u q v (h ∙ ap (λ (z : ℕ). put_text t (Ok 0) (whole (head_bytes b.big_endian z types strings))) e) g) k
 
   all_length : (bases : List ℕ) (types strings : ℕ) → types ≡ types_size b s start ids (type_count b) → strings ≡ base_of b s start ids (type_count b) → length (all_bytes b s start ids bases types strings) ≡ 24 + types + strings
   unfolding all_bytes
@@ -322,11 +343,11 @@ module _ (b : TypeTable) (s start ids : List ℕ) where
       ∙ (λ i. head_length big (get_or s 3 0) types strings i + (types_length b s start ids bases (type_count b) ∙ sym e) i + (strings_length b s start ids (type_count b) ∙ sym f) i)
 
   -- what is written where there is room
-  whole_put : (t a : List ℕ) (r : ℕ) (u : List ℕ) → length a ≤ length t → put_out r u ≡ put_text t 0 (whole a) → u ≡ a ++ drop (length a) t
+  whole_put : (t a : List ℕ) (r : Placed) (u : List ℕ) → length a ≤ length t → put_out r u ≡ put_text t (Ok 0) (whole a) → u ≡ a ++ drop (length a) t
   unfolding written bytes
   whole_put t a r u l h =
       let z : 0 + length a ≡ length a = omega arith in
-      let g : put_text t 0 (whole a) ≡ written t 0 (whole a) = put_fits t 0 (whole a) (omega (arith, l)) in
+      let g : put_text t (Ok 0) (whole a) ≡ written t 0 (whole a) = put_fits t 0 (whole a) (omega (arith, l)) in
       (went u r (a ++ drop (0 + length a) t) (0 + length a) (h ∙ g)).0 ∙ ap (λ (k : ℕ). a ++ drop k t) z
 
   module _ (bases : List ℕ) (types strings : ℕ) (out : List ℕ) where
@@ -339,8 +360,8 @@ module _ (b : TypeTable) (s start ids : List ℕ) where
       unfolding fitting_written
       fit_short h = rw (le-ltb 16777216 (24 + types + strings) l, fitting_written, lt-ltb (length out) (24 + types + strings) h)
 
-      pub fit_is : 24 + types + strings ≤ length out → types ≡ types_size b s start ids (type_count b) → strings ≡ base_of b s start ids (type_count b) → (r : ℕ) (u : List ℕ)
-          → put_out r u ≡ put_text out 0 (whole (all_bytes b s start ids bases types strings)) → wrote_of (Some (24 + types + strings)) u ≡ fitting_written b s start ids bases types strings out
+      pub fit_is : 24 + types + strings ≤ length out → types ≡ types_size b s start ids (type_count b) → strings ≡ base_of b s start ids (type_count b) → (r : Placed) (u : List ℕ)
+          → put_out r u ≡ put_text out (Ok 0) (whole (all_bytes b s start ids bases types strings)) → wrote_of (Some (24 + types + strings)) u ≡ fitting_written b s start ids bases types strings out
       unfolding fitting_written
       fit_is h e f r u p =
           let n = all_length bases types strings e f in

@@ -1,13 +1,16 @@
 -- Laws of the writer of the string area: for each return, and for each loop its start, its turn and its end. Assumes nothing.
-use Prim.Native.Nat.{ℕ, ◌+◌, ◌≤◌}
+use Prim.Native.Nat.{ℕ, ◌+◌, ◌<◌, ◌≤◌}
 use native.Mathlib.Omega.{arith}
 use native.Mathlib.Numerals.{add-one}
-use mathlib.Core.Path.{◌≡◌, sym, ◌∙◌, ap}
+use mathlib.Core.Path.{◌≡◌, refl, sym, ◌∙◌, ap}
 use mathlib.Core.Bool.{Bool, true, false, not}
 use mathlib.Core.List.{List, [], ◌∷◌}
 use lib.ListN.{length, get_or, length-append}
 use borrow.Author.Tests.{eq-eqb, ne_eqb}
-use Rattle.spec_bytes.specs.text.Text.{whole, put_out, put_text}
+use Rattle.std.specs.Prelude.{Err, IsErrAnd}
+use Rattle.spec_bytes.specs.declared.refusal.Refusal.{Refusal}
+use Rattle.spec_bytes.specs.text.Text.{whole}
+use Rattle.spec_bytes.specs.text.Placed.{Placed, put_out, put_text}
 use Rattle.spec_bytes.proofs.text.TextLaws.{put_seq, put_empty}
 use Rattle.spec_type_table.specs.declared.types.TypeTable.{TypeTable}
 use Rattle.spec_type_table.specs.Names.{str_at}
@@ -18,11 +21,12 @@ use Rattle.session_cut_marks.specs.mentioned.Strings.{name_bytes, names_bytes, o
 use Rattle.session_cut_marks.proofs.mentioned.Laws.{flip_true, flip_false}
 use Rattle.session_cut_marks.proofs.mentioned.Sizes.{name_length}
 use Rattle.std.proofs.Common.{Option}
+use Rattle.session_cut.proofs.writer.Stops.{loop_stops}
 use Rattle.session_cut.specs.writer.Bytes.{name_if, Mentions}
 
 module _ (b : TypeTable) (s : List ℕ) (e j : ℕ) (new : Bool) where
   module _ (z : not new ≡ true) where
-    pub name_none : (t : List ℕ) (at : ℕ) → put_out at t ≡ put_text t at (whole (name_if b s e j new))
+    pub name_none : (t : List ℕ) (at : Placed) → put_out at t ≡ put_text t at (whole (name_if b s e j new))
     unfolding name_if
     name_none t at = rw (flip_true new z, name_if) (put_empty t at)
 
@@ -31,7 +35,7 @@ module _ (b : TypeTable) (s : List ℕ) (e j : ℕ) (new : Bool) where
     long_none len = let h : length (name_if b s e j new) ≡ 0 = rw (flip_true new z, name_if) in omega (arith, h)
 
   module _ (z : not new ≡ false) (off : ℕ) (f : off ≡ word_of b s e j) where
-    pub name_put : (t : List ℕ) (at p : ℕ) (u : List ℕ) (r : ℕ) (u' : List ℕ) → put_out p u ≡ put_text t at (whole (str_at b s off)) → put_out r u' ≡ put_text u p (whole (0 ∷ [])) → put_out r u' ≡ put_text t at (whole (name_if b s e j new))
+    pub name_put : (t : List ℕ) (at p : Placed) (u : List ℕ) (r : Placed) (u' : List ℕ) → put_out p u ≡ put_text t at (whole (str_at b s off)) → put_out r u' ≡ put_text u p (whole (0 ∷ [])) → put_out r u' ≡ put_text t at (whole (name_if b s e j new))
     unfolding name_if
     name_put t at p u r u' h k =
         rw (flip_false new z, name_if) (put_seq t at (str_at b s (word_of b s e j)) (0 ∷ []) p u r u' (h ∙ ap (λ (o : ℕ). put_text t at (whole (str_at b s o))) f) k)
@@ -62,37 +66,47 @@ module _ (b : TypeTable) (s start ids : List ℕ) where
     pub all_length : (n j len : ℕ) → j ≤ n → n ≤ j → len ≡ base_of b s start ids x + new_sizes b s start ids x e j → len ≡ base_of b s start ids x + new_sizes b s start ids x e n
     all_length n j len l g h = let z : j ≡ n = omega (arith, l, g) in h ∙ ap (λ (k : ℕ). base_of b s start ids x + new_sizes b s start ids x e k) z
 
-    module _ (t : List ℕ) (at : ℕ) where
+    module _ (t : List ℕ) (at : Placed) where
       pub no_new : put_out at t ≡ put_text t at (whole (names_bytes b s start ids x e 0))
       unfolding names_bytes
       no_new = put_empty t at
 
-      pub more_new : (j p : ℕ) (u : List ℕ) (r : ℕ) (u' : List ℕ) (new : Bool) → put_out p u ≡ put_text t at (whole (names_bytes b s start ids x e j)) → new ≡ is_new b s start ids x e j → put_out r u' ≡ put_text u p (whole (name_if b s e j new))
+      pub more_new : (j : ℕ) (p : Placed) (u : List ℕ) (r : Placed) (u' : List ℕ) (new : Bool) → put_out p u ≡ put_text t at (whole (names_bytes b s start ids x e j)) → new ≡ is_new b s start ids x e j → put_out r u' ≡ put_text u p (whole (name_if b s e j new))
           → put_out r u' ≡ put_text t at (whole (names_bytes b s start ids x e (j + 1)))
       unfolding names_bytes
       more_new j p u r u' new h g k = rw add-one (put_seq t at (names_bytes b s start ids x e j) (name_bytes b s start ids x e j) p u r u' h (k ∙ ap (λ (l : List ℕ). put_text u p (whole l)) (name_if_lem x e j new g)))
 
-      pub all_new : (n j p : ℕ) (u : List ℕ) → n ≡ words_in b s e → j ≤ n → n ≤ j → put_out p u ≡ put_text t at (whole (names_bytes b s start ids x e j)) → put_out p u ≡ put_text t at (whole (names_bytes b s start ids x e (words_in b s e)))
+      pub new_stop : (n j : ℕ) (u : List ℕ) (c : Refusal) → n ≡ words_in b s e → j < n → put_out (Err c) u ≡ put_text t at (whole (names_bytes b s start ids x e (j + 1))) → (r : Placed) → IsErrAnd r (λ d. d ≡ c)
+          → put_out r u ≡ put_text t at (whole (names_bytes b s start ids x e (words_in b s e)))
+      unfolding names_bytes
+      new_stop n j u c w l h r k = loop_stops (names_bytes b s start ids x e) (name_bytes b s start ids x e) (λ m. refl) t at c u (j + 1) (words_in b s e) (omega (arith, w, l)) h r k
+
+      pub all_new : (n j : ℕ) (p : Placed) (u : List ℕ) → n ≡ words_in b s e → j ≤ n → n ≤ j → put_out p u ≡ put_text t at (whole (names_bytes b s start ids x e j)) → put_out p u ≡ put_text t at (whole (names_bytes b s start ids x e (words_in b s e)))
       all_new n j p u c l g h = let z : j ≡ n = omega (arith, l, g) in h ∙ ap (λ (k : ℕ). put_text t at (whole (names_bytes b s start ids x e k))) (z ∙ c)
 
-  module _ (t : List ℕ) (at x v : ℕ) (k : v ≡ get_or ids x 0) where
+  module _ (t : List ℕ) (at : Placed) (x v : ℕ) (k : v ≡ get_or ids x 0) where
     pub own_none : v ≡ 0 → put_out at t ≡ put_text t at (whole (own_bytes b s start ids x))
     unfolding own_bytes
     own_none z = rw (eq-eqb (get_or ids x 0) 0 (sym k ∙ z), own_bytes) (put_empty t at)
 
-    pub own_is : (v ≡ 0 → ⊥) → (y : ℕ) → y ≡ x → (e : ℕ) → e ≡ entry_at b start x → (r : ℕ) (u : List ℕ) → put_out r u ≡ put_text t at (whole (names_bytes b s start ids y e (words_in b s e))) → put_out r u ≡ put_text t at (whole (own_bytes b s start ids x))
+    pub own_is : (v ≡ 0 → ⊥) → (y : ℕ) → y ≡ x → (e : ℕ) → e ≡ entry_at b start x → (r : Placed) (u : List ℕ) → put_out r u ≡ put_text t at (whole (names_bytes b s start ids y e (words_in b s e))) → put_out r u ≡ put_text t at (whole (own_bytes b s start ids x))
     unfolding own_bytes
     own_is z y i e f r u h = rw (ne_eqb (get_or ids x 0) 0 (λ w. z (k ∙ w)), own_bytes) (h ∙ ap (λ (q : ℕ). put_text t at (whole (names_bytes b s start ids q e (words_in b s e)))) i ∙ ap (λ (q : ℕ). put_text t at (whole (names_bytes b s start ids x q (words_in b s q)))) f)
 
-  module _ (t : List ℕ) (at : ℕ) where
+  module _ (t : List ℕ) (at : Placed) where
     pub no_news : put_out at t ≡ put_text t at (whole (news_bytes b s start ids 0))
     unfolding news_bytes
     no_news = put_empty t at
 
-    pub more_news : (x p : ℕ) (u : List ℕ) (r : ℕ) (u' : List ℕ) → put_out p u ≡ put_text t at (whole (news_bytes b s start ids x)) → put_out r u' ≡ put_text u p (whole (own_bytes b s start ids x))
+    pub more_news : (x : ℕ) (p : Placed) (u : List ℕ) (r : Placed) (u' : List ℕ) → put_out p u ≡ put_text t at (whole (news_bytes b s start ids x)) → put_out r u' ≡ put_text u p (whole (own_bytes b s start ids x))
         → put_out r u' ≡ put_text t at (whole (news_bytes b s start ids (x + 1)))
     unfolding news_bytes
     more_news x p u r u' h g = rw add-one (put_seq t at (news_bytes b s start ids x) (own_bytes b s start ids x) p u r u' h g)
 
-    pub all_news : (n x p : ℕ) (u : List ℕ) → n ≡ type_count b → x ≤ n → n ≤ x → put_out p u ≡ put_text t at (whole (news_bytes b s start ids x)) → put_out p u ≡ put_text t at (whole (news_bytes b s start ids (type_count b)))
+    pub news_stop : (n x : ℕ) (u : List ℕ) (c : Refusal) → n ≡ type_count b → x < n → put_out (Err c) u ≡ put_text t at (whole (news_bytes b s start ids (x + 1))) → (r : Placed) → IsErrAnd r (λ d. d ≡ c)
+        → put_out r u ≡ put_text t at (whole (news_bytes b s start ids (type_count b)))
+    unfolding news_bytes
+    news_stop n x u c w l h r k = loop_stops (news_bytes b s start ids) (own_bytes b s start ids) (λ m. refl) t at c u (x + 1) (type_count b) (omega (arith, w, l)) h r k
+
+    pub all_news : (n x : ℕ) (p : Placed) (u : List ℕ) → n ≡ type_count b → x ≤ n → n ≤ x → put_out p u ≡ put_text t at (whole (news_bytes b s start ids x)) → put_out p u ≡ put_text t at (whole (news_bytes b s start ids (type_count b)))
     all_news n x p u c l g h = let z : x ≡ n = omega (arith, l, g) in h ∙ ap (λ (k : ℕ). put_text t at (whole (news_bytes b s start ids k))) (z ∙ c)

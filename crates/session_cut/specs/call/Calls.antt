@@ -4,9 +4,8 @@ use Rattle.std.specs.Prelude.{ℕ, Bool, ◌&&◌, List, [], ◌∷◌, length, 
 use Rattle.spec_bytes.specs.words.Words.{words}
 use Rattle.spec_opening.specs.Table.{described_in, types_of}
 use Rattle.spec_opening.specs.Causes.{cause2, cause3, cause4, cause5, cause6, first_of}
-use Rattle.spec_session.specs.declared.session.Answer.{Answer}
+use Rattle.spec_session.specs.session.Answers.{Answer, answer_of}
 use Rattle.spec_session.specs.declared.session.Session.{Session}
-use Rattle.spec_session.specs.session.Answers.{answer_of}
 use Rattle.spec_cut.specs.section.Section.{cut_section, cut_number, cut_value, cut_output}
 use Rattle.spec_cut.specs.section.Test.{is_kept}
 

@@ -1,10 +1,7 @@
 -- What the code's answers say; only private functions promise what is defined here.
-use Rattle.std.specs.Prelude.{ℕ, Option, Some, None, Result, Ok, Err, true, false, List}
-use Rattle.spec_bytes.specs.declared.refusal.Refusal.{Refusal}
-use Rattle.spec_bytes.specs.Refusals.{refusal_number}
+use Rattle.std.specs.Prelude.{ℕ, Option, Some, None, true, false, List}
 use Rattle.spec_opening.specs.Table.{types_of, index_of}
-use Rattle.spec_session.specs.declared.session.Answer.{Answer}
-use Rattle.spec_session.specs.declared.session.Answer.TheVariants.{Accepted, Refused}
+use Rattle.spec_session.specs.session.Answers.{Accepted, Refused}
 use Rattle.session_cut.specs.writer.Bytes.{Wrote, wrote_of}
 use Rattle.session_cut.specs.call.Calls.{Cut, cut_of, passes}
 
@@ -20,11 +17,6 @@ checked_out (Some n) start = fit n start
 
 unfoldable pub checked_of : ℕ → List ℕ → Checked
 checked_of pointer s = elim (passes pointer s) [ true ↦ fit (types_of s) (index_of s) | false ↦ unfit ]
-
--- the answer of the call
-unfoldable pub answer_to : Result ℕ Refusal → Answer
-answer_to (Ok len) = Accepted len
-answer_to (Err r) = Refused (refusal_number r) 0
 
 -- "The answer is the length written, 0 when refused"
 unfoldable pub answered : Wrote → Cut

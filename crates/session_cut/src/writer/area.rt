@@ -1,6 +1,7 @@
 // The string area of the new section.
-ghost use Rattle.std.specs.Prelude.{◌≡◌, ◌<◌};
-ghost use Rattle.spec_bytes.specs.text.Text.{whole, put_out, put_text};
+ghost use Rattle.std.specs.Prelude.{◌≡◌, ◌<◌, Ok};
+ghost use Rattle.spec_bytes.specs.text.Text.{whole};
+ghost use Rattle.spec_bytes.specs.text.Placed.{put_out, put_text};
 ghost use Rattle.btf_open_causes.specs.references.Followed.{type_count};
 ghost use Rattle.session_cut_marks.specs.roles.Words.{words_in};
 ghost use Rattle.session_cut_marks.specs.mentioned.Names.{base_of};
@@ -12,67 +13,75 @@ ghost use Rattle.session_cut_marks.specs.kept.AtKept.{at_kept};
 use crate::writer::names::longer;
 use crate::writer::source::{KeptType, Source};
 use base_bytes::put::put_byte;
+use base_bytes::refusal::Refusal;
 use btf_open_causes::references::count;
 use btf_type_table::table::Table;
 use session_cut_marks::roles::{word_of, words_in};
 
 // The name of word j and its 0, if it is new.
-fn put_name(b: &Table, e: u32, j: u32, new: bool, out: &mut [u8], at: usize) -> usize
-    ensures { put_out result out.new ≡ put_text out.old at (whole (name_if b.now.head b.now.section.now e j new)) }
+fn put_name(
+    b: &Table,
+    e: u32,
+    j: u32,
+    new: bool,
+    out: &mut [u8],
+    at: usize,
+) -> Result<usize, Refusal>
+    ensures { put_out result out.new ≡ put_text out.old (Ok at) (whole (name_if b.now.head b.now.section.now e j new)) }
 {
     if !new {
-        return at;
+        return Ok(at);
     }
-    let p = b.put_str(out, at, word_of(b, e, j));
+    let p = b.put_str(out, at, word_of(b, e, j))?;
     put_byte(out, p, 0)
 }
 
 impl Source<'_> {
-    fn put_names(&self, t: KeptType, out: &mut [u8], at: usize) -> usize
+    fn put_names(&self, t: KeptType, out: &mut [u8], at: usize) -> Result<usize, Refusal>
         requires { IsKept self.now.kept t.x t.e
             × (t.base ≡ at_kept base_of self.now.kept t.x) }
         ensures { put_out result out.new
-            ≡ put_text out.old at
+            ≡ put_text out.old (Ok at)
             (whole (at_kept names_bytes self.now.kept t.x t.e (words_in self.now.kept.table.head self.now.kept.table.section.now t.e))) }
     {
         let mut p = at;
         let mut len = t.base;
         for j in 0..words_in(&self.kept.table, t.e) {
             let m = self.mention(t, j, len);
-            p = put_name(&self.kept.table, t.e, j, m.new, out, p);
+            p = put_name(&self.kept.table, t.e, j, m.new, out, p)?;
             len = longer(&self.kept.table, t.e, m);
         }
-        p
+        Ok(p)
     }
 
     // The new names of type x.
-    fn put_own(&self, x: u32, out: &mut [u8], at: usize) -> usize
+    fn put_own(&self, x: u32, out: &mut [u8], at: usize) -> Result<usize, Refusal>
         requires { x < type_count self.now.kept.table.head }
-        ensures { put_out result out.new ≡ put_text out.old at (whole (at_kept own_bytes self.now.kept x)) }
+        ensures { put_out result out.new ≡ put_text out.old (Ok at) (whole (at_kept own_bytes self.now.kept x)) }
     {
         if self.kept.new_id(x) == 0 {
-            return at;
+            return Ok(at);
         }
         self.put_names(self.kept_type(x), out, at)
     }
 
-    fn put_news(&self, out: &mut [u8], at: usize) -> usize
+    fn put_news(&self, out: &mut [u8], at: usize) -> Result<usize, Refusal>
         ensures { put_out result out.new
-            ≡ put_text out.old at (whole (at_kept news_bytes self.now.kept (type_count self.now.kept.table.head))) }
+            ≡ put_text out.old (Ok at) (whole (at_kept news_bytes self.now.kept (type_count self.now.kept.table.head))) }
     {
         let mut p = at;
         for x in 0..count(self.kept.table.head) {
-            p = self.put_own(x, out, p);
+            p = self.put_own(x, out, p)?;
         }
-        p
+        Ok(p)
     }
 
     // The leading 0, and the new names.
-    pub(crate) fn put_strings(&self, out: &mut [u8], at: usize) -> usize
+    pub(crate) fn put_strings(&self, out: &mut [u8], at: usize) -> Result<usize, Refusal>
         ensures { put_out result out.new
-            ≡ put_text out.old at (whole (at_kept strings_bytes self.now.kept (type_count self.now.kept.table.head))) }
+            ≡ put_text out.old (Ok at) (whole (at_kept strings_bytes self.now.kept (type_count self.now.kept.table.head))) }
     {
-        let p = put_byte(out, at, 0);
+        let p = put_byte(out, at, 0)?;
         self.put_news(out, p)
     }
 }

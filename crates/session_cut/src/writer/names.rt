@@ -10,12 +10,12 @@ ghost use Rattle.session_cut_marks.specs.kept.AtKept.{at_kept};
 ghost use Rattle.session_cut_marks.specs.tags.Tags.{some_number};
 
 use crate::writer::source::{KeptType, Mention, Source};
+use base_bytes::element::peek;
 use btf_open_causes::references::count;
 use btf_type_table::table::Table;
 use session_cut_marks::interned::find;
 use session_cut_marks::kept::Kept;
 use session_cut_marks::mentioned::first_name;
-use session_cut_marks::peek::peek;
 use session_cut_marks::roles::{Role, word_of, word_role, words_in};
 
 // Where the table has the name of word j; none for another word and for the empty name.

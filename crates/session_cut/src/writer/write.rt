@@ -1,6 +1,7 @@
 // Writing the new section.
-ghost use Rattle.std.specs.Prelude.{◌≡◌, true, ◌<◌, ◌≤◌, ℕ};
-ghost use Rattle.spec_bytes.specs.text.Text.{whole, put_out, put_text};
+ghost use Rattle.std.specs.Prelude.{◌≡◌, true, ◌<◌, ◌≤◌, ℕ, Ok};
+ghost use Rattle.spec_bytes.specs.text.Text.{whole};
+ghost use Rattle.spec_bytes.specs.text.Placed.{put_out, put_text};
 ghost use Rattle.btf_open_causes.specs.references.Followed.{type_count};
 ghost use Rattle.session_cut_marks.specs.roles.Words.{words_in, word_of};
 ghost use Rattle.session_cut_marks.specs.mentioned.Names.{base_of, place_of};
@@ -11,12 +12,13 @@ ghost use Rattle.session_cut_marks.specs.kept.AtKept.{at_kept};
 
 use crate::writer::names::longer;
 use crate::writer::source::{KeptType, Mention, Source};
+use base_bytes::element::peek;
 use base_bytes::limit;
 use base_bytes::put::put_bytes;
+use base_bytes::refusal::Refusal;
 use btf_open_causes::references::count;
 use session_cut_marks::interned::SLOTS_LEN;
 use session_cut_marks::kept::Kept;
-use session_cut_marks::peek::peek;
 use session_cut_marks::roles::{Role, word_of, word_role, words_in};
 
 // The lengths of the two areas.
@@ -27,8 +29,8 @@ struct Sizes {
 }
 
 // A word, the most significant byte first where `big`.
-fn put_word(out: &mut [u8], at: usize, big: bool, v: u32) -> usize
-    ensures { put_out result out.new ≡ put_text out.old at (whole (word_bytes big v)) }
+fn put_word(out: &mut [u8], at: usize, big: bool, v: u32) -> Result<usize, Refusal>
+    ensures { put_out result out.new ≡ put_text out.old (Ok at) (whole (word_bytes big v)) }
 {
     if big {
         put_bytes(out, at, &v.to_be_bytes())
@@ -38,8 +40,8 @@ fn put_word(out: &mut [u8], at: usize, big: bool, v: u32) -> usize
 }
 
 // The magic number 0xEB9F in the order of the bytes, version 1 and the flags.
-fn put_magic(out: &mut [u8], at: usize, big: bool, flags: u8) -> usize
-    ensures { put_out result out.new ≡ put_text out.old at (whole (magic_bytes big flags)) }
+fn put_magic(out: &mut [u8], at: usize, big: bool, flags: u8) -> Result<usize, Refusal>
+    ensures { put_out result out.new ≡ put_text out.old (Ok at) (whole (magic_bytes big flags)) }
 {
     if big {
         put_bytes(out, at, &[0xEB, 0x9F, 1, flags])
@@ -49,14 +51,20 @@ fn put_magic(out: &mut [u8], at: usize, big: bool, flags: u8) -> usize
 }
 
 // The header of 24 bytes: types follow, then strings.
-pub fn put_head(out: &mut [u8], big: bool, flags: u8, types: u32, strings: u32) -> usize
-    ensures { put_out result out.new ≡ put_text out.old 0 (whole (head_bytes big flags types strings)) }
+pub fn put_head(
+    out: &mut [u8],
+    big: bool,
+    flags: u8,
+    types: u32,
+    strings: u32,
+) -> Result<usize, Refusal>
+    ensures { put_out result out.new ≡ put_text out.old (Ok 0) (whole (head_bytes big flags types strings)) }
 {
-    let p0 = put_magic(out, 0, big, flags);
-    let p1 = put_word(out, p0, big, 24);
-    let p2 = put_word(out, p1, big, 0);
-    let p3 = put_word(out, p2, big, types);
-    let p4 = put_word(out, p3, big, types);
+    let p0 = put_magic(out, 0, big, flags)?;
+    let p1 = put_word(out, p0, big, 24)?;
+    let p2 = put_word(out, p1, big, 0)?;
+    let p3 = put_word(out, p2, big, types)?;
+    let p4 = put_word(out, p3, big, types)?;
     put_word(out, p4, big, strings)
 }
 
@@ -101,11 +109,11 @@ impl Source<'_> {
     }
 
     // The record of type t.
-    fn put_record(&self, t: KeptType, out: &mut [u8], at: usize) -> usize
+    fn put_record(&self, t: KeptType, out: &mut [u8], at: usize) -> Result<usize, Refusal>
         requires { IsKept self.now.kept t.x t.e
             × (t.base ≡ at_kept base_of self.now.kept t.x) }
         ensures { put_out result out.new
-            ≡ put_text out.old at
+            ≡ put_text out.old (Ok at)
             (whole (at_kept record_bytes self.now.kept self.now.bases.now t.e
             (words_in self.now.kept.table.head self.now.kept.table.section.now t.e))) }
     {
@@ -118,38 +126,39 @@ impl Source<'_> {
                 p,
                 self.kept.table.head.big_endian,
                 self.new_word(t.e, m),
-            );
+            )?;
             len = longer(&self.kept.table, t.e, m);
         }
-        p
+        Ok(p)
     }
 
-    fn put_type(&self, x: u32, out: &mut [u8], at: usize) -> usize
+    fn put_type(&self, x: u32, out: &mut [u8], at: usize) -> Result<usize, Refusal>
         requires { x < type_count self.now.kept.table.head }
-        ensures { put_out result out.new ≡ put_text out.old at (whole (at_kept type_bytes self.now.kept self.now.bases.now x)) }
+        ensures { put_out result out.new ≡ put_text out.old (Ok at) (whole (at_kept type_bytes self.now.kept self.now.bases.now x)) }
     {
         if self.kept.new_id(x) == 0 {
-            return at;
+            return Ok(at);
         }
         self.put_record(self.kept_type(x), out, at)
     }
 
     // The types that are kept.
-    fn put_types(&self, out: &mut [u8], at: usize) -> usize
+    fn put_types(&self, out: &mut [u8], at: usize) -> Result<usize, Refusal>
         ensures { put_out result out.new
-            ≡ put_text out.old at (whole (at_kept types_bytes self.now.kept self.now.bases.now (type_count self.now.kept.table.head))) }
+            ≡ put_text out.old (Ok at)
+            (whole (at_kept types_bytes self.now.kept self.now.bases.now (type_count self.now.kept.table.head))) }
     {
         let mut p = at;
         for x in 0..count(self.kept.table.head) {
-            p = self.put_type(x, out, p);
+            p = self.put_type(x, out, p)?;
         }
-        p
+        Ok(p)
     }
 
     // Header, types and strings.
-    fn put_all(&self, sizes: Sizes, out: &mut [u8]) -> usize
+    fn put_all(&self, sizes: Sizes, out: &mut [u8]) -> Result<usize, Refusal>
         ensures { put_out result out.new
-            ≡ put_text out.old 0 (whole (at_kept all_bytes self.now.kept self.now.bases.now sizes.types sizes.strings)) }
+            ≡ put_text out.old (Ok 0) (whole (at_kept all_bytes self.now.kept self.now.bases.now sizes.types sizes.strings)) }
     {
         let flags = peek(self.kept.table.section, 3, 0);
         let p = put_head(
@@ -158,8 +167,8 @@ impl Source<'_> {
             flags,
             sizes.types,
             sizes.strings,
-        );
-        let q = self.put_types(out, p);
+        )?;
+        let q = self.put_types(out, p)?;
         self.put_strings(out, q)
     }
 
@@ -176,7 +185,8 @@ impl Source<'_> {
         if out.len() < (len as usize) {
             return None;
         }
-        self.put_all(sizes, out);
+        // There is room for all of it.
+        let _ = self.put_all(sizes, out);
         Some(len)
     }
 }

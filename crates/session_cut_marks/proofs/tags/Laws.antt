@@ -7,6 +7,9 @@ use mathlib.Core.Bool.{Bool, true, false}
 use mathlib.Core.List.{List}
 use lib.ListN.{length, get_or, set}
 use lib.Dec.{ltb, eqb}
+use lib.Seq.{set_out}
+use mathlib.Core.Logic.{⊎_elim}
+use Rattle.spec_bytes.proofs.words.Laws.{le_or_lt}
 use borrow.Author.Tests.{eq-eqb, ne_eqb, lt-ltb, le-ltb}
 use Rattle.spec_type_table.specs.declared.types.TypeTable.{TypeTable}
 use Rattle.spec_type_table.specs.Records.{section_word}
@@ -83,13 +86,16 @@ module _ (b : TypeTable) (s start : List ℕ) where
       unfolding tagged_at
       tag_unmarked z = rw (ne_eqb (tag_on b s start x) 0 (λ u. nz (q ∙ u)), tagged_at, eq-eqb (get_or m (tag_on b s start x) 0) 0 (sym found ∙ z))
 
-      pub tag_marked : (v ≡ 0 → ⊥) → x < length m → set m x 1 ≡ tagged_at b s start m x
+      tag_inside : (v ≡ 0 → ⊥) → x < length m → set m x 1 ≡ tagged_at b s start m x
       unfolding tagged_at
-      tag_marked z l = rw (ne_eqb (tag_on b s start x) 0 (λ u. nz (q ∙ u)), tagged_at, ne_eqb (get_or m (tag_on b s start x) 0) 0 (λ u. z (found ∙ u)), lt-ltb x (length m) l)
+      tag_inside z l = rw (ne_eqb (tag_on b s start x) 0 (λ u. nz (q ∙ u)), tagged_at, ne_eqb (get_or m (tag_on b s start x) 0) 0 (λ u. z (found ∙ u)), lt-ltb x (length m) l)
 
-      pub tag_past : (v ≡ 0 → ⊥) → length m ≤ x → m ≡ tagged_at b s start m x
+      tag_past : (v ≡ 0 → ⊥) → length m ≤ x → m ≡ tagged_at b s start m x
       unfolding tagged_at
       tag_past z l = rw (ne_eqb (tag_on b s start x) 0 (λ u. nz (q ∙ u)), tagged_at, ne_eqb (get_or m (tag_on b s start x) 0) 0 (λ u. z (found ∙ u)), le-ltb x (length m) l)
+
+      pub tag_marked : (v ≡ 0 → ⊥) → set m x 1 ≡ tagged_at b s start m x
+      tag_marked z = ⊎_elim (λ l. set_out m x 1 l ∙ tag_past z l) (tag_inside z) (le_or_lt (length m) x)
 
   pub none_tagged : (m : List ℕ) → m ≡ tagged_to b s start m 0
   unfolding tagged_to

@@ -11,6 +11,7 @@ ghost use Rattle.session_cut_marks.specs.interned.Filler.{filled_by};
 use crate::interned::slots::slot_of;
 use crate::kept::Kept;
 use crate::roles::{Role, word_of, word_role, words_in};
+use base_bytes::element::store;
 use base_bytes::limit;
 use btf_open_causes::references::count;
 use btf_type_table::table::Table;
@@ -142,14 +143,5 @@ impl Kept<'_> {
             filler.enter_type(self, x);
         }
         filler.len
-    }
-}
-
-// Sets word i. By index: with get_mut the proof of what the slice is afterwards did not close.
-fn store(l: &mut [u32], i: usize, v: u32)
-    ensures { l.new ≡ set l.old i v }
-{
-    if i < l.len() {
-        l[i] = v;
     }
 }

@@ -5,7 +5,7 @@ ghost use Rattle.session_cut_marks.specs.interned.Slots.{stops, slot_of, found, 
 
 use crate::interned::SLOTS;
 use crate::mentioned::same_name;
-use crate::peek::peek;
+use base_bytes::element::peek;
 use base_bytes::limit;
 use btf_open_names::keys::hash_name;
 use btf_type_table::table::Table;

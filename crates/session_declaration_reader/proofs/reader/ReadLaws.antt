@@ -1,9 +1,9 @@
 -- Laws for the reader: what it returns is the chain of the definition, or 19. Assumes nothing.
-use Rattle.std.specs.Prelude.{Some, None}
+use Rattle.std.specs.Prelude.{Option, Some, None, is_some, IfSome}
 use Prim.Native.Nat.{ℕ, suc, ◌+◌, ◌≤◌, ◌<◌}
-use mathlib.Core.Path.{◌≡◌, refl, ap, sym, ◌∙◌}
+use mathlib.Core.Path.{◌≡◌, refl, ap, sym, subst, ◌∙◌}
 use mathlib.Core.Bool.{Bool, true, false}
-use mathlib.Core.List.{List, [], ◌∷◌, ◌++◌, append-nil}
+use mathlib.Core.List.{List, [], ◌∷◌, ◌++◌, append-nil, append_assoc}
 use mathlib.Core.Logic.{◌⊎◌, inl, inr, ⊎_elim}
 use native.Mathlib.Omega.{arith}
 use borrow.Author.Tests.{lt-ltb, le-ltb, le-leb, lt-leb, leb-true, leb-false}
@@ -15,10 +15,10 @@ use Rattle.session_declaration_reader.specs.tokens.Tokens.{Token, qual, word, nu
 use Rattle.session_declaration_reader.specs.grammar.Grammar.{Reads, reads, fails, and_then, read_base, declarator}
 use Rattle.session_declaration_reader.specs.bases.Bases.{qual_run, after_quals, word_run, after_words, words_of}
 use Rattle.session_declaration_reader.specs.reader.Reading.{most, chain, refused, read_tokens, within_most, whole, read_with}
-use Rattle.session_declaration_reader.specs.tokens.Looking.{Span, tokens_at, next_kind, Looked}
+use Rattle.session_declaration_reader.specs.tokens.Looking.{Span, places, tokens_at, next_kind, Looked}
 use Rattle.session_declaration_reader.specs.bases.Items.{Item, item, qual_items, one_more, put_item, Placed, placed, placing}
 use Rattle.session_declaration_reader.specs.grammar.Encoding.{base_item, base_kind, any_params, layer_items, param_items}
-use Rattle.session_declaration_reader.specs.reader.Encoding.{chain_items, placed_chain, read_into}
+use Rattle.session_declaration_reader.specs.reader.Encoding.{chain_items, placed_chain, read_into, count_told, ReadOut}
 use Rattle.session_declaration_reader.specs.bases.Looking.{begins_base, BaseOf, BaseAt, base_items}
 use Rattle.session_declaration_reader.specs.grammar.Emission.{outcome, emits}
 use Rattle.session_declaration_reader.specs.declared.tokens.Tok.{Tok}
@@ -128,6 +128,15 @@ module _ (t : List ℕ) (c : Chain Span) (n : ℕ) (t' : List ℕ) (e : placed n
       (λ k. failed (leb (entries c) 512) (chain c) refused (lt-leb (entries c) 512 k))
       (le_or_lt (entries c) 512)
 
+-- a chain has an entry at least
+more_some : (n : ℕ) → 0 < one_more n
+more_some n = ⊎_elim (λ k. omega (arith, more_many n k)) (λ k. omega (arith, more_few n k)) (le_or_lt 512 n)
+
+reach_some : (a : List Item) (i : Item) (n : ℕ) → 0 < reach n (a ++ i ∷ [])
+unfolding reach
+reach_some [] i n = more_some n
+reach_some (j ∷ a) i n = reach_some a i (one_more n)
+
 abbrev is_end_kind : TokenKind → Bool
 is_end_kind End = true
 is_end_kind (kinds.Qualifier q) = false
@@ -177,11 +186,11 @@ module _ (s : List ℕ) (c : List ℕ) where
   unfolding read_into read_with tokens_at
   answers m e = ap (λ x. placed_chain c (whole x)) e
 
-  refuses : (m : Reads Span (Chain Span)) → read_tokens ts ≡ m → whole m ≡ refused → (r : ℕ) (k : ℕ) (c₂ : List ℕ) → k ≡ length c → placed r c₂ ≡ placed 0 (replicate k 0) → placed r c₂ ≡ read_into s c
-  unfolding placed_chain
-  refuses m e f r k c₂ h p = p ∙ ap (λ (n : ℕ). placed 0 (replicate n 0)) h ∙ sym (answers m e ∙ ap (placed_chain c) f)
+  refuses : (m : Reads Span (Chain Span)) → read_tokens ts ≡ m → whole m ≡ refused → read_with (places (length s)) s ≡ refused
+  unfolding read_with tokens_at
+  refuses m e f = ap whole e ∙ f
 
-  pub read_baseless : BaseAt s 0 true None → (r : ℕ) (k : ℕ) (c₂ : List ℕ) → k ≡ length c → placed r c₂ ≡ placed 0 (replicate k 0) → placed r c₂ ≡ read_into s c
+  pub read_baseless : BaseAt s 0 true None → read_with (places (length s)) s ≡ refused
   unfolding whole
   read_baseless f = refuses fails (based ∙ failed _ K fails f) refl
 
@@ -193,7 +202,7 @@ module _ (s : List ℕ) (c : List ℕ) where
     same = ap (declarator 2056 true) (sym a.rest_is)
 
     pub read_fails : (c₁ : List ℕ) → outcome s None c₁ ≡ emits layer_items c 0 (declarator 2056 true (tokens_at s b.end))
-        → (n : ℕ) (k : ℕ) (c₃ : List ℕ) → k ≡ length c → placed n c₃ ≡ placed 0 (replicate k 0) → placed n c₃ ≡ read_into s c
+        → read_with (places (length s)) s ≡ refused
     unfolding whole
     read_fails c₁ e =
         refuses
@@ -208,7 +217,7 @@ module _ (s : List ℕ) (c : List ℕ) where
       is : read_tokens ts ≡ reads (made w.value) (tokens_at s r.at)
       is = here ∙ parse.then_reads (declarator most true us) w.value (tokens_at s r.at) _ (same ∙ w.reads_it)
 
-      pub read_behind : (t.kind ≡ End → ⊥) → (n : ℕ) (k : ℕ) (c₃ : List ℕ) → k ≡ length c → placed n c₃ ≡ placed 0 (replicate k 0) → placed n c₃ ≡ read_into s c
+      pub read_behind : (t.kind ≡ End → ⊥) → read_with (places (length s)) s ≡ refused
       read_behind f = refuses (reads (made w.value) (tokens_at s r.at)) is (goes_on (made w.value) (tokens_at s r.at) (λ q. f (l.kind_is ∙ q)))
 
       module _ (z : t.kind ≡ End) (n : ℕ) (c₂ : List ℕ) (p : placed n c₂ ≡ placing c₁ r.n (base_items b 1)) where
@@ -222,10 +231,32 @@ module _ (s : List ℕ) (c : List ℕ) where
             sym (append-nil (base_items b 1)) ∙ parse.base_items_lem b (qual_run ts) ws a.quals_are a.from_is a.to_is 1 [] in
             placing_then c 0 (layer_items w.value) (qual_items (qual_run ts) ++ (base_item 1 ws ∷ [])) r.n c₁ n c₂ w.stores (p ∙ ap (placing c₁ r.n) q)
 
-        pub read_over : 512 < n → (j : ℕ) (k : ℕ) (c₄ : List ℕ) → k ≡ length c → placed j c₄ ≡ placed 0 (replicate k 0) → placed j c₄ ≡ read_into s c
+        pub read_over : 512 < n → read_with (places (length s)) s ≡ refused
         unfolding whole
         read_over f = refuses (reads (made w.value) []) ended (many_entries c (made w.value) n c₂ stored f)
 
-        pub read_good : n ≤ 512 → placed n c₂ ≡ read_into s c
-        unfolding whole placed_chain
-        read_good f = stored ∙ sym (answers (reads (made w.value) []) ended ∙ ap (placed_chain c) (few_entries c (made w.value) n c₂ stored f))
+        pub read_good : n ≤ 512 → (placed n c₂ ≡ read_into s c) × (0 < n)
+        unfolding whole placed_chain chain_items
+        read_good f = (
+          stored ∙ sym (answers (reads (made w.value) []) ended ∙ ap (placed_chain c) (few_entries c (made w.value) n c₂ stored f)),
+          omega (arith, reached c (made w.value) n c₂ stored, some_item),
+        )
+          where
+            some_item : 0 < reach 0 (chain_items (made w.value))
+            some_item = subst (λ (is : List Item). 0 < reach 0 is) (append_assoc (layer_items w.value) (qual_items (qual_run ts)) (base_item 1 ws ∷ [])) (reach_some (layer_items w.value ++ qual_items (qual_run ts)) (base_item 1 ws) 0)
+
+-- ---- read_declaration: what was read, or words of zero
+module _ (s c c₁ : List ℕ) where
+  -- `?` hands on that there is none
+  pub none_out : (r : Option ℕ) → r ≡ None → read_with (places (length s)) s ≡ refused → ReadOut s c r c₁
+  none_out r z e = subst (λ (x : Option ℕ). ReadOut s c x c₁) (sym z) e
+
+  pub read_none : (r : Option ℕ) → ReadOut s c r c₁ → is_some r ≡ false → (u : List ℕ) → u ≡ replicate (length c₁) 0 → length c₁ ≡ length c
+      → (count_told r u ≡ read_into s c) × IfSome r (λ n. 0 < n)
+  unfolding read_into placed_chain
+  read_none None e z u eu l = (ap (placed 0) eu ∙ ap (λ (n : ℕ). placed 0 (replicate n 0)) l ∙ sym (ap (placed_chain c) e), tt)
+  read_none (Some n) e z u eu l = absurd (false_true (sym z))
+
+  pub read_some : (r : Option ℕ) → ReadOut s c r c₁ → is_some r ≡ true → (count_told r c₁ ≡ read_into s c) × IfSome r (λ n. 0 < n)
+  read_some None e z = absurd (false_true z)
+  read_some (Some n) e z = e

@@ -45,7 +45,8 @@ impl Entry {
     }
 }
 
-// Stores three words as entry n, if it is one of 512 and there is room. One more stands for all that are too many, as C is told.
+// Stores three words as entry n, if it is one of 512 and there is room. One more stands for all that are too many: the number of entries
+// goes through all of the grammar, which the definition counts in the same way, and only whoever asked for the chain looks at it.
 fn put_item(chain: &mut [u64], n: u32, kind: u64, x: u64, y: u64) -> u32
     ensures { placed result chain.new ≡ placing chain.old n (item kind x y ∷ []) }
 {

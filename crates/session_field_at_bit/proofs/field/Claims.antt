@@ -17,9 +17,8 @@ use Rattle.spec_c_dumper.specs.rules.Writer.{Ask, got, no, ask_then, checked}
 use Rattle.spec_c_dumper.specs.rules.Types.{Member, BtfType, Void, Int, Ptr, Array, Composite, Enum, Enum64, Fwd, Typedef, Mod, Func, Var, Datasec, FuncProto, Float, DeclTag, TypeTag, Btf}
 use Rattle.spec_c_dumper.specs.rules.Layout.{size_of, get_size_of, end_of}
 use Rattle.spec_type_table.specs.Table.{btf_of}
-use Rattle.spec_session.specs.declared.session.Answer.TheVariants.{Accepted, Refused}
+use Rattle.spec_session.specs.session.Answers.{Accepted, Refused, number_of, value_of}
 use Rattle.spec_session.specs.declared.session.Session.{Session}
-use Rattle.spec_session.specs.session.Answers.{number_of, value_of}
 use Rattle.spec_session.specs.session.Turns.{is_current, table_for}
 use Rattle.session_field_at_bit.specs.step.Path.{Shape, plain, through, array, composite, shape_of, is_composite, behind, Step, stay, enter, field, covers, tried, placed, step_in, full, onward, path_from, some_entry, field_path}
 use Rattle.session_field_at_bit.specs.field.Calls.{Found, found_of, put_words, lent_path, field_call}

@@ -13,8 +13,7 @@ use Rattle.spec_type_table.specs.declared.types.TypeTable.{TypeTable}
 use Rattle.spec_type_table.specs.declared.types.BtfType.{BtfType as Record}
 use Rattle.spec_type_table.specs.Records.{record_by_id}
 use Rattle.spec_type_table.specs.Table.{type_of, btf_of}
-use Rattle.spec_session.specs.declared.session.Answer.{Answer}
-use Rattle.spec_session.specs.declared.session.Answer.TheVariants.{Accepted, Refused}
+use Rattle.spec_session.specs.session.Answers.{Answer, Accepted, Refused}
 use Rattle.spec_session.specs.declared.session.Session.{Session}
 use Rattle.spec_session.specs.session.Turns.{is_current, table_for}
 use Rattle.session_field_at_bit.specs.declared.step.Shape.{Shape as CodeShape}
@@ -26,6 +25,9 @@ use Rattle.session_field_at_bit.specs.field.Calls.{found_of, put_words, lent_pat
 use Rattle.session_field_at_bit.proofs.step.Laws.{not_false, not_true}
 use Rattle.session_field_at_bit.specs.step.Code.{shape_is, step_is, step_asked, asked, Led, led_to, entry_put, entry_before}
 use Rattle.std.specs.Prelude.{Result, Ok, Err}
+use Rattle.spec_bytes.specs.Refusals.{refusal_number}
+use Rattle.spec_bytes.specs.declared.refusal.Refusal.{Refusal}
+use Rattle.spec_bytes.specs.declared.refusal.Refusal.TheVariants.{TooDeep}
 use Rattle.session_field_at_bit.specs.field.Code.{written, answer_to}
 
 -- ---- is_composite
@@ -107,7 +109,7 @@ module _ (path : List ℕ) (n k : ℕ) where
       ∙ ap (led_to (got (n + 1 + length p))) (entry_then (leb (n + 1 + length p) (length path / 4)) p)
       ∙ ap (λ (m : ℕ). led_to (got m) (elim (leb m (length path / 4)) [ true ↦ put_words path n (k ∷ p) | false ↦ path ])) z
 
-module _ (b : TypeTable) (s w : List ℕ) (path : List ℕ) (id bit n : ℕ) (x : CodeShape) (ex : shape_is b s x ≡ behind 512 (btf_of b s w) id) (r : Result CodeStep ℕ) (er : step_asked r ≡ step_in (btf_of b s w) bit (shape_is b s x)) where
+module _ (b : TypeTable) (s w : List ℕ) (path : List ℕ) (id bit n : ℕ) (x : CodeShape) (ex : shape_is b s x ≡ behind 512 (btf_of b s w) id) (r : Result CodeStep Refusal) (er : step_asked r ≡ step_in (btf_of b s w) bit (shape_is b s x)) where
   step_is_lem : step_asked r ≡ step_in (btf_of b s w) bit (behind 512 (btf_of b s w) id)
   step_is_lem = er ∙ ap (step_in (btf_of b s w) bit) ex
 
@@ -130,24 +132,24 @@ module _ (b : TypeTable) (s w : List ℕ) (path : List ℕ) (id bit n : ℕ) (x 
   unfolding asked step_asked step_is ask_then full onward
   walk_stay g =
       sym (ap (written path n) (zero_or_more
-      (λ z. path_full z ∙ ap (λ (y : Result CodeStep ℕ). ask_then (step_asked y) full) g)
-      (λ l z. path_is l z ∙ ap (λ (y : Result CodeStep ℕ). ask_then (step_asked y) (onward (path_from l (btf_of b s w)))) g))
+      (λ z. path_full z ∙ ap (λ (y : Result CodeStep Refusal). ask_then (step_asked y) full) g)
+      (λ l z. path_is l z ∙ ap (λ (y : Result CodeStep Refusal). ask_then (step_asked y) (onward (path_from l (btf_of b s w)))) g))
       ∙ written_none path n)
 
-  pub walk_no : (c : ℕ) → r ≡ Err c → led_to (asked (Err c)) path ≡ written path n (path_from (512 - n) (btf_of b s w) id bit)
+  pub walk_no : (c : Refusal) → r ≡ Err c → led_to (asked (Err c)) path ≡ written path n (path_from (512 - n) (btf_of b s w) id bit)
   unfolding asked step_asked step_is ask_then written
   walk_no c g =
       sym (ap (written path n) (zero_or_more
-      (λ z. path_full z ∙ ap (λ (y : Result CodeStep ℕ). ask_then (step_asked y) full) g)
-      (λ l z. path_is l z ∙ ap (λ (y : Result CodeStep ℕ). ask_then (step_asked y) (onward (path_from l (btf_of b s w)))) g)))
+      (λ z. path_full z ∙ ap (λ (y : Result CodeStep Refusal). ask_then (step_asked y) full) g)
+      (λ l z. path_is l z ∙ ap (λ (y : Result CodeStep Refusal). ask_then (step_asked y) (onward (path_from l (btf_of b s w)))) g)))
 
-  pub walk_full : n ≡ 512 → (y : CodeStep) → r ≡ Ok y → (y ≡ step.Stay → ⊥) → (d : ℕ) → d ≡ 12 → led_to (asked (Err d)) path ≡ written path n (path_from (512 - n) (btf_of b s w) id bit)
+  pub walk_full : n ≡ 512 → (y : CodeStep) → r ≡ Ok y → (y ≡ step.Stay → ⊥) → led_to (asked (Err TooDeep)) path ≡ written path n (path_from (512 - n) (btf_of b s w) id bit)
   unfolding asked step_asked step_is ask_then full written
-  walk_full h y g more d ed =
+  walk_full h y g more =
       let z : 512 - n ≡ 0 = omega arith in
-      ap (λ (e : ℕ). led_to (no e) path) ed ∙ go y more ∙ sym (ap (written path n) (path_full z ∙ ap (λ (u : Result CodeStep ℕ). ask_then (step_asked u) full) g))
+      go y more ∙ sym (ap (written path n) (path_full z ∙ ap (λ (u : Result CodeStep Refusal). ask_then (step_asked u) full) g))
     where
-      go : (u : CodeStep) → (u ≡ step.Stay → ⊥) → led_to (asked (Err 12)) path ≡ written path n (ask_then (step_asked (Ok u)) full)
+      go : (u : CodeStep) → (u ≡ step.Stay → ⊥) → led_to (asked (Err TooDeep)) path ≡ written path n (ask_then (step_asked (Ok u)) full)
       go (step.Stay) m = absurd (m refl)
       go (step.Enter k t rest) m = refl
       go (step.Field k) m = refl
@@ -158,34 +160,34 @@ module _ (b : TypeTable) (s w : List ℕ) (path : List ℕ) (id bit n : ℕ) (x 
     walk_field g path'' e =
         let z : 512 - n ≡ suc (512 - (n + 1)) = omega arith in
         ap (led_to (got (n + 1))) e
-        ∙ sym (ap (written path n) (path_is (512 - (n + 1)) z ∙ ap (λ (y : Result CodeStep ℕ). ask_then (step_asked y) (onward (path_from (512 - (n + 1)) (btf_of b s w)))) g))
+        ∙ sym (ap (written path n) (path_is (512 - (n + 1)) z ∙ ap (λ (y : Result CodeStep Refusal). ask_then (step_asked y) (onward (path_from (512 - (n + 1)) (btf_of b s w)))) g))
 
-    module _ (t rest : ℕ) (g : r ≡ Ok (step.Enter k t rest)) (y : Result ℕ ℕ) (path' : List ℕ) (l : length path' ≡ length path) (ey : led_to (asked y) path' ≡ written path (n + 1) (path_from (512 - (n + 1)) (btf_of b s w) t rest)) where
+    module _ (t rest : ℕ) (g : r ≡ Ok (step.Enter k t rest)) (y : Result ℕ Refusal) (path' : List ℕ) (l : length path' ≡ length path) (ey : led_to (asked y) path' ≡ written path (n + 1) (path_from (512 - (n + 1)) (btf_of b s w) t rest)) where
       entered_then : entry_before path' n k (asked y) ≡ written path n (path_from (512 - n) (btf_of b s w) id bit)
       unfolding step_asked step_is ask_then onward
       entered_then =
           let z : 512 - n ≡ suc (512 - (n + 1)) = omega arith in
           written_more path n k (path_from (512 - (n + 1)) (btf_of b s w) t rest) (asked y) path' l ey
-          ∙ sym (ap (written path n) (path_is (512 - (n + 1)) z ∙ ap (λ (x : Result CodeStep ℕ). ask_then (step_asked x) (onward (path_from (512 - (n + 1)) (btf_of b s w)))) g))
+          ∙ sym (ap (written path n) (path_is (512 - (n + 1)) z ∙ ap (λ (x : Result CodeStep Refusal). ask_then (step_asked x) (onward (path_from (512 - (n + 1)) (btf_of b s w)))) g))
 
       pub walk_enter : (len : ℕ) (path'' : List ℕ) → y ≡ Ok len → path'' ≡ entry_put path' n k len → led_to (asked (Ok len)) path'' ≡ written path n (path_from (512 - n) (btf_of b s w) id bit)
       unfolding asked entry_before
-      walk_enter len path'' gy e = ap (led_to (got len)) e ∙ sym (ap (λ (x : Result ℕ ℕ). entry_before path' n k (asked x)) gy) ∙ entered_then
+      walk_enter len path'' gy e = ap (led_to (got len)) e ∙ sym (ap (λ (x : Result ℕ Refusal). entry_before path' n k (asked x)) gy) ∙ entered_then
 
-      pub walk_refused : (c : ℕ) → y ≡ Err c → led_to (asked (Err c)) path' ≡ written path n (path_from (512 - n) (btf_of b s w) id bit)
+      pub walk_refused : (c : Refusal) → y ≡ Err c → led_to (asked (Err c)) path' ≡ written path n (path_from (512 - n) (btf_of b s w) id bit)
       unfolding asked entry_before
-      walk_refused c gy = sym (ap (λ (x : Result ℕ ℕ). entry_before path' n k (asked x)) gy) ∙ entered_then
+      walk_refused c gy = sym (ap (λ (x : Result ℕ Refusal). entry_before path' n k (asked x)) gy) ∙ entered_then
 
 -- ---- answer_to
-pub answer_none : (room len : ℕ) → len ≡ 0 → (d : ℕ) → d ≡ 21 → Refused d 0 ≡ answer_to room len
+pub answer_none : (room len : ℕ) → len ≡ 0 → Refused 21 0 ≡ answer_to room len
 unfolding answer_to
-answer_none room len e d ed = rw (ed, e)
+answer_none room len e = rw e
 
 module _ (room : ℕ) where
-  pub answer_short : (len : ℕ) → (len ≡ 0 → ⊥) → room < len → (d : ℕ) → d ≡ 17 → Refused d 0 ≡ answer_to room len
+  pub answer_short : (len : ℕ) → (len ≡ 0 → ⊥) → room < len → Refused 17 0 ≡ answer_to room len
   unfolding answer_to
-  answer_short zero n h d ed = absurd (n refl)
-  answer_short (suc l) n h d ed = ap (λ (e : ℕ). Refused e 0) ed ∙ sym (rw (lt-leb (suc l) room h, answer_to))
+  answer_short zero n h = absurd (n refl)
+  answer_short (suc l) n h = sym (rw (lt-leb (suc l) room h, answer_to))
 
   pub answer_whole : (len : ℕ) → (len ≡ 0 → ⊥) → len ≤ room → Accepted len ≡ answer_to room len
   unfolding answer_to
@@ -198,26 +200,29 @@ module _ (b : TypeTable) (s w path : List ℕ) (id bit : ℕ) (t : Record) (et :
   unfolding btf_of
   is_composite_lem = sym (eq ∙ ap (λ (z : Record). is_composite (shape_of (type_of b s z))) et)
 
-  pub field_not : not q ≡ true → (d : ℕ) → d ≡ 21 → found_of (Refused d 0) path ≡ lent_path path (field_path (btf_of b s w) id bit)
+  pub field_not : not q ≡ true → found_of (Refused 21 0) path ≡ lent_path path (field_path (btf_of b s w) id bit)
   unfolding field_path lent_path
-  field_not h d ed = let e : field_path (btf_of b s w) id bit ≡ no 21 = rw (is_composite_lem ∙ not_false q h, field_path) in ap (λ (c : ℕ). found_of (Refused c 0) path) ed ∙ sym (ap (lent_path path) e)
+  field_not h = let e : field_path (btf_of b s w) id bit ≡ no 21 = rw (is_composite_lem ∙ not_false q h, field_path) in sym (ap (lent_path path) e)
 
-  module _ (h : not q ≡ false) (y : Result ℕ ℕ) (path' : List ℕ) (ey : led_to (asked y) path' ≡ written path 0 (path_from (512 - 0) (btf_of b s w) id bit)) where
+  module _ (h : not q ≡ false) (y : Result ℕ Refusal) (path' : List ℕ) (ey : led_to (asked y) path' ≡ written path 0 (path_from (512 - 0) (btf_of b s w) id bit)) where
     field_is : field_path (btf_of b s w) id bit ≡ ask_then (path_from (512 - 0) (btf_of b s w) id bit) some_entry
     unfolding field_path
     field_is = rw (is_composite_lem ∙ not_true q h, field_path)
 
-    pub field_no : (c : ℕ) → y ≡ Err c → found_of (Refused c 0) path' ≡ lent_path path (field_path (btf_of b s w) id bit)
+    pub field_no : (c : Refusal) → y ≡ Err c → found_of (Refused (refusal_number c) 0) path' ≡ lent_path path (field_path (btf_of b s w) id bit)
     unfolding asked written led_to ask_then lent_path
-    field_no c g = go (path_from (512 - 0) (btf_of b s w) id bit) (sym (ap (λ (z : Result ℕ ℕ). led_to (asked z) path') g) ∙ ey) ∙ sym (ap (lent_path path) field_is)
+    field_no c g = go (path_from (512 - 0) (btf_of b s w) id bit) (sym (ap (λ (z : Result ℕ Refusal). led_to (asked z) path') g) ∙ ey) ∙ sym (ap (lent_path path) field_is)
       where
-        go : (X : Ask (List ℕ)) → led_to (no c) path' ≡ written path 0 X → found_of (Refused c 0) path' ≡ lent_path path (ask_then X some_entry)
-        go (no d) e = let f : no c ≡ no d = ap (λ (x : Led). x.answer) e in let cd : c ≡ d = cc in λ i. found_of (Refused (cd i) 0) (e i).path
-        go (got p) e = let f : no c ≡ got (0 + length p) = ap (λ (x : Led). x.answer) e in let z : ◌≡◌ {A = ℕ} 0 1 = cc in absurd (omega arith)
+        n : ℕ
+        n = refusal_number c
+
+        go : (X : Ask (List ℕ)) → led_to (no n) path' ≡ written path 0 X → found_of (Refused n 0) path' ≡ lent_path path (ask_then X some_entry)
+        go (no d) e = let f : no n ≡ no d = ap (λ (x : Led). x.answer) e in let cd : n ≡ d = cc in λ i. found_of (Refused (cd i) 0) (e i).path
+        go (got p) e = let f : no n ≡ got (0 + length p) = ap (λ (x : Led). x.answer) e in let z : ◌≡◌ {A = ℕ} 0 1 = cc in absurd (omega arith)
 
     pub field_got : (len room : ℕ) (a : Answer) → y ≡ Ok len → room ≡ length path / 4 → a ≡ answer_to room len → found_of a path' ≡ lent_path path (field_path (btf_of b s w) id bit)
     unfolding asked written led_to ask_then lent_path some_entry answer_to put_words chosen
-    field_got len room a g er ea = go (path_from (512 - 0) (btf_of b s w) id bit) (sym (ap (λ (z : Result ℕ ℕ). led_to (asked z) path') g) ∙ ey) ∙ sym (ap (lent_path path) field_is)
+    field_got len room a g er ea = go (path_from (512 - 0) (btf_of b s w) id bit) (sym (ap (λ (z : Result ℕ Refusal). led_to (asked z) path') g) ∙ ey) ∙ sym (ap (lent_path path) field_is)
       where
         -- a path that is not empty
         whole : (l : ℕ) (u : List ℕ) (o : Bool) → found_of (elim o [ true ↦ Accepted l | false ↦ Refused 17 0 ]) (elim o [ true ↦ u | false ↦ path ]) ≡ (elim o [ true ↦ found_of (Accepted l) u | false ↦ found_of (Refused 17 0) path ])
@@ -241,14 +246,14 @@ module _ (b : TypeTable) (s w path : List ℕ) (id bit : ℕ) (t : Record) (et :
 
 -- ---- which_field
 module _ (s : Session) (section w path : List ℕ) (id bit : ℕ) (q : Bool) (eq : q ≡ is_current s (length section) (length w) s.text_len) where
-  pub call_11 : not q ≡ true → (d : ℕ) → d ≡ 11 → found_of (Refused d 0) path ≡ field_call s section w path id bit
+  pub call_11 : not q ≡ true → found_of (Refused 11 0) path ≡ field_call s section w path id bit
   unfolding field_call
-  call_11 h d ed = ap (λ (c : ℕ). found_of (Refused c 0) path) ed ∙ sym (rw (sym eq ∙ not_false q h, field_call))
+  call_11 h = sym (rw (sym eq ∙ not_false q h, field_call))
 
   module _ (h : not q ≡ false) where
-    pub call_10 : s.types ≤ id → (d : ℕ) → d ≡ 10 → found_of (Refused d 0) path ≡ field_call s section w path id bit
+    pub call_10 : s.types ≤ id → found_of (Refused 10 0) path ≡ field_call s section w path id bit
     unfolding field_call
-    call_10 l d ed = ap (λ (c : ℕ). found_of (Refused c 0) path) ed ∙ sym (rw (sym eq ∙ not_true q h, field_call, le-ltb id s.types l))
+    call_10 l = sym (rw (sym eq ∙ not_true q h, field_call, le-ltb id s.types l))
 
     pub call_is : id < s.types → (b : TypeTable) (a : Answer) (path' : List ℕ) → b ≡ table_for s section → found_of a path' ≡ lent_path path (field_path (btf_of b section w) id bit) → found_of a path' ≡ field_call s section w path id bit
     unfolding field_call

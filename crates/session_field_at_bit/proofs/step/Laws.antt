@@ -52,9 +52,9 @@ module _ (q : Result ℕ Refusal) (Q : Ask ℕ) (eq : ask_of q ≡ Q) (f : ℕ �
   unfolding ask_of ask_then step_asked
   asked_got n r g er = ap got er ∙ ap (λ (z : Ask ℕ). ask_then z (λ n. got (f n))) (sym (ap ask_of g) ∙ eq)
 
-  pub asked_no : (c : Refusal) (n : ℕ) → q ≡ Err c → n ≡ refusal_number c → step_asked (Err n) ≡ ask_then Q (λ n. got (f n))
+  pub asked_no : (c : Refusal) → q ≡ Err c → step_asked (Err c) ≡ ask_then Q (λ n. got (f n))
   unfolding ask_of ask_then step_asked
-  asked_no c n g en = ap (λ (z : ℕ). no z) en ∙ ap (λ (z : Ask ℕ). ask_then z (λ n. got (f n))) (sym (ap ask_of g) ∙ eq)
+  asked_no c g = ap (λ (z : Ask ℕ). ask_then z (λ n. got (f n))) (sym (ap ask_of g) ∙ eq)
 
 -- ---- the loop of find_member
 pub not_false : (x : Bool) → not x ≡ true → x ≡ false
@@ -121,7 +121,7 @@ module _ (b : TypeTable) (s w : List ℕ) (t : Record) (bit : ℕ) where
             let y : x ≡ got stay = ex ∙ ap got (step_picked end ∙ ap entered_only e) in
             (λ h. ap entered_or e, λ h. absurd (h y))
 
-    module _ (r : Result CodeStep ℕ) (er : step_asked r ≡ ask_then (end_of (btf_of b s w) (rule_member b s m)) (λ end. got (member_step m k end bit))) (T : Ask Step) (i : T ≡ tried_rest k) where
+    module _ (r : Result CodeStep Refusal) (er : step_asked r ≡ ask_then (end_of (btf_of b s w) (rule_member b s m)) (λ end. got (member_step m k end bit))) (T : Ask Step) (i : T ≡ tried_rest k) where
       pub tried_more : r ≡ Ok step.Stay → T ≡ tried_rest (k + 1)
       unfolding step_asked step_is
       tried_more g = i ∙ tried_one ∙ (decides _ _ er).0 (ap step_asked g)
@@ -138,9 +138,9 @@ module _ (b : TypeTable) (s w : List ℕ) (t : Record) (bit : ℕ) where
           go (step.Enter a c d) e n = cc
           go (step.Field a) e n = cc
 
-      pub tried_refused : (c : ℕ) → r ≡ Err c → step_asked (Err c) ≡ T
+      pub tried_refused : (c : Refusal) → r ≡ Err c → step_asked (Err c) ≡ T
       unfolding step_asked
-      tried_refused c g = ap step_asked (sym g) ∙ tried_found (λ e. let z : no c ≡ got stay = sym (ap step_asked g) ∙ e in cc)
+      tried_refused c g = ap step_asked (sym g) ∙ tried_found (λ e. let z : no (refusal_number c) ≡ got stay = sym (ap step_asked g) ∙ e in cc)
 
   pub tried_end : (T : Ask Step) (k n : ℕ) → T ≡ tried_rest k → n ≡ vlen_of t.info → n ≤ k → step_asked (Ok step.Stay) ≡ T
   unfolding tried_rest from tried step_is step_asked
@@ -172,11 +172,11 @@ module _ (b : TypeTable) (s w : List ℕ) (bit : ℕ) (x : CodeShape) where
   unfolding step_is step_asked step_in shape_is
   next_through t g = sym (ap (λ (z : CodeShape). step_in (btf_of b s w) bit (shape_is b s z)) g)
 
-  pub next_array : (t : ℕ) (r : Result CodeStep ℕ) → x ≡ shape.Array t → step_asked r ≡ ask_then (get_size_of 512 (btf_of b s w) t) (λ size. got (placed t size bit)) → step_asked r ≡ step_in (btf_of b s w) bit (shape_is b s x)
+  pub next_array : (t : ℕ) (r : Result CodeStep Refusal) → x ≡ shape.Array t → step_asked r ≡ ask_then (get_size_of 512 (btf_of b s w) t) (λ size. got (placed t size bit)) → step_asked r ≡ step_in (btf_of b s w) bit (shape_is b s x)
   unfolding step_in shape_is
   next_array t r g er = er ∙ sym (ap (λ (z : CodeShape). step_in (btf_of b s w) bit (shape_is b s z)) g)
 
-  pub next_composite : (t : Record) (r : Result CodeStep ℕ) → x ≡ shape.Composite t → step_asked r ≡ tried (btf_of b s w) bit 0 (members_of b s t) → step_asked r ≡ step_in (btf_of b s w) bit (shape_is b s x)
+  pub next_composite : (t : Record) (r : Result CodeStep Refusal) → x ≡ shape.Composite t → step_asked r ≡ tried (btf_of b s w) bit 0 (members_of b s t) → step_asked r ≡ step_in (btf_of b s w) bit (shape_is b s x)
   unfolding step_in shape_is
   next_composite t r g er = er ∙ sym (ap (λ (z : CodeShape). step_in (btf_of b s w) bit (shape_is b s z)) g)
 

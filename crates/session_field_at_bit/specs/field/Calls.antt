@@ -3,8 +3,7 @@ use Rattle.std.specs.Prelude.{ℕ, suc, ◌/◌, true, false, List, [], ◌∷�
 use Rattle.spec_bytes.specs.words.Words.{put_word}
 use Rattle.spec_c_dumper.specs.rules.Writer.{Ask, got, no}
 use Rattle.spec_type_table.specs.Table.{btf_of}
-use Rattle.spec_session.specs.declared.session.Answer.{Answer}
-use Rattle.spec_session.specs.declared.session.Answer.TheVariants.{Accepted, Refused}
+use Rattle.spec_session.specs.session.Answers.{Answer, Accepted, Refused}
 use Rattle.spec_session.specs.declared.session.Session.{Session}
 use Rattle.spec_session.specs.session.Turns.{is_current, table_for}
 use Rattle.session_field_at_bit.specs.step.Path.{field_path}

@@ -1,8 +1,7 @@
 -- What the code's answers say; only private functions promise what is defined here.
 use Rattle.std.specs.Prelude.{ℕ, zero, suc, ◌+◌, ◌/◌, true, false, List, leb, length}
 use Rattle.spec_c_dumper.specs.rules.Writer.{Ask, got, no}
-use Rattle.spec_session.specs.declared.session.Answer.{Answer}
-use Rattle.spec_session.specs.declared.session.Answer.TheVariants.{Accepted, Refused}
+use Rattle.spec_session.specs.session.Answers.{Answer, Accepted, Refused}
 use Rattle.session_field_at_bit.specs.step.Code.{Led, led_to}
 use Rattle.session_field_at_bit.specs.field.Calls.{put_words}
 

@@ -1,5 +1,7 @@
 -- What the code's answers say of a step and of an entry.
 use Rattle.std.specs.Prelude.{ℕ, ◌-◌, ◌/◌, true, false, Result, Ok, Err, List, leb, eqb, length}
+use Rattle.spec_bytes.specs.declared.refusal.Refusal.{Refusal}
+use Rattle.spec_bytes.specs.Refusals.{refusal_number}
 use Rattle.spec_bytes.specs.words.Words.{put_word}
 use Rattle.spec_c_dumper.specs.rules.Writer.{Ask, got, no}
 use Rattle.spec_type_table.specs.declared.types.TypeTable.{TypeTable}
@@ -24,14 +26,14 @@ step_is (Enter k t bit) = enter k t bit
 step_is (Field k) = field k
 
 -- a step or a refusal
-unfoldable pub step_asked : Result CodeStep ℕ → Ask Step
+unfoldable pub step_asked : Result CodeStep Refusal → Ask Step
 step_asked (Ok s) = got (step_is s)
-step_asked (Err c) = no c
+step_asked (Err c) = no (refusal_number c)
 
 -- a length or a refusal
-unfoldable pub asked : Result ℕ ℕ → Ask ℕ
+unfoldable pub asked : Result ℕ Refusal → Ask ℕ
 asked (Ok n) = got n
-asked (Err c) = no c
+asked (Err c) = no (refusal_number c)
 
 -- what member k says, where its bits end before `end`
 unfoldable pub member_step : BtfMember → ℕ → ℕ → ℕ → Step

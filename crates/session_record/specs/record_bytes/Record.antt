@@ -1,7 +1,6 @@
 -- The session record after each call: the words are those of c_words/specs.
 use Rattle.std.specs.Prelude.{ℕ, zero, suc, true, false, List, ltb}
-use Rattle.spec_session.specs.declared.session.Answer.{Answer}
-use Rattle.spec_session.specs.declared.session.Answer.TheVariants.{Accepted, Refused}
+use Rattle.spec_session.specs.session.Answers.{Answer, Accepted, Refused}
 use Rattle.spec_session.specs.declared.session.Session.{Session}
 use Rattle.session_record.specs.record_words.Words.{put_long, put_reached, encoded}
 

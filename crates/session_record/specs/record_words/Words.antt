@@ -2,9 +2,8 @@
 -- then section length, work length, types, enumerators, text length, pointer size, modes, visits, and seven words of zero.
 use Rattle.std.specs.Prelude.{ℕ, zero, suc, ◌+◌, ◌*◌, ◌/◌, ◌%◌, List, [], ◌∷◌, eqb}
 use Rattle.spec_bytes.specs.words.Words.{get_word, put_word}
-use Rattle.spec_session.specs.declared.session.Answer.{Answer}
+use Rattle.spec_session.specs.session.Answers.{Answer, number_of, value_of}
 use Rattle.spec_session.specs.declared.session.Session.{Session}
-use Rattle.spec_session.specs.session.Answers.{number_of, value_of}
 
 -- word i, and the bytes with word i set to v
 unfoldable pub get_long : List ℕ → ℕ → ℕ

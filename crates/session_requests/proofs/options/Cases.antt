@@ -9,7 +9,7 @@ use lib.Dec.{ltb}
 use Rattle.spec_type_table.specs.declared.types.TypeTable.{TypeTable}
 use Rattle.spec_c_dumper.specs.origins.Causes.{Entry, up_to, entries_in}
 use Rattle.spec_session.specs.declared.session.Session.{Session}
-use Rattle.spec_session.specs.session.Answers.{number_of, answer_of}
+use Rattle.spec_session.specs.session.Answers.{answer_is, number_of, answer_of}
 use Rattle.spec_session.specs.session.Turns.{Call, call_of, is_current, table_for, Reach, reached, refused_by, visits_in}
 use Rattle.spec_session.specs.calls.Calls.{requested, onward, requested_from, type_call, types_call}
 use Rattle.spec_session.specs.calls.Lists.{then_next, list_from, list_call}
@@ -209,7 +209,7 @@ module _ (section : List ℕ) where
 
 -- ---- the nine calls, each as the one call at its option
 module _ (s : Session) (section w t : List ℕ) (r : Ended) (w' t' l' : List ℕ) where
-  same_call : (d : CallWith) → ended_of r w' t' l' ≡ d → call_of r.turn.session r.turn.answer w' t' ≡ d.call
+  same_call : (d : CallWith) → ended_of r w' t' l' ≡ d → call_of r.turn.session (answer_is r.turn.answer) w' t' ≡ d.call
   unfolding ended_of
   same_call d e = ap (λ (x : CallWith). x.call) e
 
@@ -221,13 +221,13 @@ module _ (s : Session) (section w t : List ℕ) (r : Ended) (w' t' l' : List ℕ
   unfolding ended_of explained_of
   same_causes d e = ap to_causes e
 
-  pub call_type : (id : ℕ) (l : List ℕ) → ended_of r w' t' l' ≡ type_call_with Plain s section w t id l 0 → call_of r.turn.session r.turn.answer w' t' ≡ type_call s section w t id
+  pub call_type : (id : ℕ) (l : List ℕ) → ended_of r w' t' l' ≡ type_call_with Plain s section w t id l 0 → call_of r.turn.session (answer_is r.turn.answer) w' t' ≡ type_call s section w t id
   call_type id l e = same_call _ e ∙ type_plain s section w t id l 0
 
-  pub call_types : (l : List ℕ) → ended_of r w' t' l' ≡ types_call_with Plain s section w t l → call_of r.turn.session r.turn.answer w' t' ≡ types_call s section w t
+  pub call_types : (l : List ℕ) → ended_of r w' t' l' ≡ types_call_with Plain s section w t l → call_of r.turn.session (answer_is r.turn.answer) w' t' ≡ types_call s section w t
   call_types l e = same_call _ e ∙ types_plain s section w t l
 
-  pub call_list : (ids l : List ℕ) → ended_of r w' t' l' ≡ list_call_with Plain s section w t ids l → call_of r.turn.session r.turn.answer w' t' ≡ list_call s section w t ids
+  pub call_list : (ids l : List ℕ) → ended_of r w' t' l' ≡ list_call_with Plain s section w t ids l → call_of r.turn.session (answer_is r.turn.answer) w' t' ≡ list_call s section w t ids
   unfolding list_call_with list_call
   call_list ids l e = same_call _ e ∙ list_plain section ids 0 s w t l 0
 

@@ -3,18 +3,20 @@ use Prim.Native.Nat.{ℕ, ◌+◌, ◌*◌, ◌-◌, ◌<◌, ◌≤◌}
 use mathlib.Core.Path.{◌≡◌, refl, ap, ◌∙◌, sym, subst}
 use mathlib.Core.Bool.{Bool, true, false, true≢false}
 use mathlib.Core.List.{List, [], ◌++◌, append-nil}
-use mathlib.Core.Logic.{⊎_elim, ◌⊎◌}
+use mathlib.Core.Logic.{⊎_elim}
 use native.Mathlib.Omega.{arith}
 use lib.ListN.{length, take}
 use lib.Dec.{leb}
 use borrow.Author.Tests.{le-leb, lt-leb}
 use borrow.Rule.Slice.PartMut.{mid_of, put_mid, mid_len}
+use Rattle.std.specs.Prelude.{Some, None, Result, Ok, Err}
+use Rattle.spec_bytes.specs.declared.refusal.Refusal.{Refusal}
+use Rattle.spec_bytes.specs.declared.refusal.Refusal.TheVariants.{CeilingPassed}
 use Rattle.spec_bytes.proofs.words.Laws.{le_or_lt}
 use Rattle.spec_type_table.specs.declared.types.TypeTable.{TypeTable}
 use Rattle.spec_type_table.specs.Cells.{get_field}
 use Rattle.spec_type_table.specs.Table.{btf_of}
 use Rattle.c_dumper_dependency_order.specs.order_state.Work.{mark_of, table_in}
-use Rattle.c_dumper_dependency_order.specs.declared.ways.Idle.{Idle}
 use Rattle.c_dumper_dependency_order.specs.ways.Idle.{idle_in}
 use Rattle.c_dumper_dependency_order.proofs.ways.Laws.{idle_none, idle_one}
 use Rattle.spec_session.specs.emission.Sheet.{is_idle}
@@ -37,7 +39,7 @@ use Rattle.session_requests.proofs.request.Entries.{joined}
 use Rattle.c_dumper_emit.proofs.dump_type.Leaders.{before_more}
 use Rattle.session_requests.specs.declared.options.Options.{Options}
 use Rattle.session_requests.specs.declared.options.Options.TheVariants as option
-use Rattle.session_requests.specs.options.Options.{is_listed, is_counted, most_calls}
+use Rattle.session_requests.specs.options.Options.{is_listed, is_counted, most_calls, idle_made}
 use Rattle.session_requests.specs.declared.options.Progress.{Progress}
 use Rattle.session_requests.specs.options.Requests.{Stage, stage_of, within_of, noted_of, idle_after, fits_under, made_under, Under, Ready, requested_listed, requested_under, requested_with}
 
@@ -72,6 +74,17 @@ module _ (o : Options) (more : ℕ → Bool) (b : TypeTable) (s : List ℕ) (id 
       go : (q : Bool) → all q ≡ record { reach = (both q).reach; entries = es; made = (both q).made }
       go true = refl
       go false = refl
+
+-- a request that has nothing to do opens one call, where calls are counted
+idle_plain : (o : Options) → is_counted o ≡ false → (k : ℕ) → idle_made o k ≡ Ok k
+idle_plain (option.Plain) e k = refl
+idle_plain (option.Within c) e k = absurd (true≢false e)
+idle_plain (option.Listed) e k = refl
+
+idle_counted : (o : Options) → is_counted o ≡ true → (k : ℕ) → idle_made o k ≡ idle_in k (most_calls o)
+idle_counted (option.Plain) e k = absurd (true≢false (sym e))
+idle_counted (option.Within c) e k = refl
+idle_counted (option.Listed) e k = absurd (true≢false (sym e))
 
 -- ---- dump_one
 module _ (o : Options) (more : ℕ → Bool) (b : TypeTable) (s : List ℕ) (id len v : ℕ) (w t : List ℕ) (k : ℕ) (w' t' l' : List ℕ) where
@@ -167,7 +180,7 @@ module _ (o : Options) (b : TypeTable) (s w t l : List ℕ) (room : ℕ) (p : Pr
   one_call : calls_in b s w id ≡ 1
   one_call = idle_calls b s w id idle
 
-  nothing : (lists : Bool) → record { reach = reach_of (record { len = len; number = 0; visits = v }) w t; entries = es } ≡ requested_listed (up_to room) b s lists id es len v w t
+  nothing : (lists : Bool) → record { reach = reach_of (record { len = len; stop = None; visits = v }) w t; entries = es } ≡ requested_listed (up_to room) b s lists id es len v w t
   unfolding requested_listed requested_noted came_to_noted forget entries_after requested
   nothing true =
       ap (λ (x : Reach). record { reach = x; entries = es }) ((idle_reach b s w t len v v id short q e z).0 ∙ ap (came_to len v t) (idle_request b (btf_of b s w) 0 (lent_to len t) w id idle))
@@ -177,7 +190,14 @@ module _ (o : Options) (b : TypeTable) (s w t l : List ℕ) (room : ℕ) (p : Pr
   abbrev Next : Progress → Type 0
   Next r = (stage_of r w t l ≡ requested_with o (up_to room) b s id es len v w t k) × (r.count ≡ p.count) × (r.reached.len ≡ len) × Under o r.made × (r.reached.visits ≡ v)
 
-  next_plain : (is_counted o) ≡ false → Next (record { reached = record { len = len; number = 0; visits = v }; count = p.count; made = k })
+  -- after k calls, and after a refusal
+  abbrev going : ℕ → Progress
+  going k' = record { reached = record { len = len; stop = None; visits = v }; count = p.count; made = k' }
+
+  abbrev stopped : Refusal → Progress
+  stopped c = record { reached = record { len = len; stop = Some c; visits = v }; count = p.count; made = k }
+
+  next_plain : (is_counted o) ≡ false → Next (going k)
   unfolding stage_of requested_with requested_under fits_under made_under
   next_plain f = (
     (λ i. record { reach = (nothing (is_listed o) i).reach; entries = (nothing (is_listed o) i).entries; made = k }) ∙ sym (λ i. requested_under (up_to room) b s (is_listed o) (f i) c₀ id es len v w t k),
@@ -188,9 +208,6 @@ module _ (o : Options) (b : TypeTable) (s w t l : List ℕ) (room : ℕ) (p : Pr
   )
 
   module _ (f : (is_counted o) ≡ true) where
-    abbrev after : Idle → Progress
-    after r = record { reached = record { len = len; number = r.number; visits = v }; count = p.count; made = r.made }
-
     set_is : (n : ℕ) → calls_in b s w id ≡ n → (y : Bool) → leb (k + n) c₀ ≡ y
         → requested_with o (up_to room) b s id es len v w t k ≡ (elim y as (λ _. Stage) [ true ↦ record { reach = (requested_listed (up_to room) b s (is_listed o) id es len v w t).reach; entries = (requested_listed (up_to room) b s (is_listed o) id es len v w t).entries; made = k + n } | false ↦ record { reach = refused_by 22 len v (take len t); entries = es; made = c₀ } ])
     unfolding requested_with requested_under fits_under made_under
@@ -199,11 +216,11 @@ module _ (o : Options) (b : TypeTable) (s w t l : List ℕ) (room : ℕ) (p : Pr
         ∙ (λ i. elim (leb (k + en i) c₀) as (λ _. Stage) [ true ↦ record { reach = (requested_listed (up_to room) b s (is_listed o) id es len v w t).reach; entries = (requested_listed (up_to room) b s (is_listed o) id es len v w t).entries; made = k + en i } | false ↦ record { reach = refused_by 22 len v (take len t); entries = es; made = c₀ } ])
         ∙ (λ i. elim (ey i) as (λ _. Stage) [ true ↦ record { reach = (requested_listed (up_to room) b s (is_listed o) id es len v w t).reach; entries = (requested_listed (up_to room) b s (is_listed o) id es len v w t).entries; made = k + n } | false ↦ record { reach = refused_by 22 len v (take len t); entries = es; made = c₀ } ])
 
-    next_none : c₀ ≤ k → Next (after (record { number = 22; made = k }))
+    next_none : c₀ ≤ k → Next (stopped CeilingPassed)
     unfolding stage_of
     next_none h =
         let ek : k ≡ c₀ = omega (arith, small f) in (
-          (λ i. record { reach = reach_refused (record { len = len; number = 22; visits = v }) w t (λ n. absurd (omega arith)) i; entries = es; made = ek i })
+          (λ i. record { reach = reach_refused (record { len = len; stop = Some CeilingPassed; visits = v }) w t CeilingPassed refl i; entries = es; made = ek i })
               ∙ sym (set_is 1 one_call false (lt-leb (k + 1) c₀ (omega arith))),
           refl,
           refl,
@@ -211,7 +228,7 @@ module _ (o : Options) (b : TypeTable) (s w t l : List ℕ) (room : ℕ) (p : Pr
           refl,
         )
 
-    next_more : k < c₀ → Next (after (record { number = 0; made = k + 1 }))
+    next_more : k < c₀ → Next (going (k + 1))
     unfolding stage_of
     next_more h = (
       (λ i. record { reach = (nothing (is_listed o) i).reach; entries = (nothing (is_listed o) i).entries; made = k + 1 }) ∙ sym (set_is 1 one_call true (le-leb (k + 1) c₀ (omega arith))),
@@ -221,35 +238,19 @@ module _ (o : Options) (b : TypeTable) (s w t l : List ℕ) (room : ℕ) (p : Pr
       refl,
     )
 
-    next_counted : Next (after (idle_in k c₀))
-    next_counted = ⊎_elim (λ h. subst (λ (r : Idle). Next (after r)) (idle_none k c₀ h) (next_none h)) (λ h. subst (λ (r : Idle). Next (after r)) (idle_one k c₀ h) (next_more h)) (le_or_lt c₀ k)
-
   pub next_idle : (r : Progress) → r ≡ idle_after p o → Next r
   unfolding idle_after
   next_idle r er = subst Next (sym er) (by (is_counted o) refl)
     where
-      ways : Bool → Progress
-      ways x = elim x as (λ _. Progress) [
-        | false ↦ record { reached = record { len = len; number = 0; visits = v }; count = p.count; made = k }
-        | true ↦ record { reached = record { len = len; number = (idle_in k c₀).number; visits = v }; count = p.count; made = (idle_in k c₀).made }
-      ]
+      ways : Result ℕ Refusal → Progress
+      ways x = elim x as (λ _. Progress) [ Ok k' ↦ going k' | Err c ↦ stopped c ]
 
-      by : (x : Bool) → (is_counted o) ≡ x → Next (ways x)
-      by false f = next_plain f
-      by true f = next_counted f
-
--- ---- pass_idle
-module _ (p : Progress) (o : Options) where
-  pub passed_plain : (o ≡ option.Plain) ⊎ (o ≡ option.Listed) → record { reached = record { len = p.reached.len; number = 0; visits = p.reached.visits }; count = p.count; made = p.made } ≡ idle_after p o
-  unfolding idle_after
-  passed_plain e = ⊎_elim (λ f. sym (ap (idle_after p) f)) (λ f. sym (ap (idle_after p) f)) e
-
-  pub passed_counted : (c : ℕ) → o ≡ option.Within c → (n : Idle) → n ≡ idle_in p.made c
-      → record { reached = record { len = p.reached.len; number = n.number; visits = p.reached.visits }; count = p.count; made = n.made } ≡ idle_after p o
-  unfolding idle_after
-  passed_counted c f n en =
-      (λ i. record { reached = record { len = p.reached.len; number = (en i).number; visits = p.reached.visits }; count = p.count; made = (en i).made })
-      ∙ sym (ap (idle_after p) f)
+      by : (x : Bool) → (is_counted o) ≡ x → Next (ways (idle_made o k))
+      by false f = subst (λ (x : Result ℕ Refusal). Next (ways x)) (sym (idle_plain o f k)) (next_plain f)
+      by true f = ⊎_elim
+          (λ h. subst (λ (x : Result ℕ Refusal). Next (ways x)) (idle_none k c₀ h ∙ sym (idle_counted o f k)) (next_none f h))
+          (λ h. subst (λ (x : Result ℕ Refusal). Next (ways x)) (idle_one k c₀ h ∙ sym (idle_counted o f k)) (next_more f h))
+          (le_or_lt c₀ k)
 
 -- what is ready for one turn is so for the next, where nothing was noted
 pub ready_more : (o : Options) (turn : ℕ) (leads : List ℕ) → Ready o turn leads → Ready o (turn + 1) leads

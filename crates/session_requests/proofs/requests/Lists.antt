@@ -1,4 +1,4 @@
--- A law for each return of `dump_ids` and `request_list`: it does not matter when what follows the text and the entries is zeroed, so once is
+-- A law for each return of `dump_ids` and `list_with`: it does not matter when what follows the text and the entries is zeroed, so once is
 -- enough. Assumes nothing.
 use Prim.Native.Nat.{ℕ, zero, suc, zero-le, ◌+◌, ◌*◌, ◌-◌, ◌/◌, ◌<◌, ◌≤◌}
 use mathlib.Core.Path.{◌≡◌, refl, ap, ◌∙◌, sym, subst}
@@ -10,9 +10,14 @@ use native.Mathlib.Nat.{le_refl}
 use native.Mathlib.Numerals.{add-one}
 use lib.ListN.{length, get_or, take, drop, replicate, take-append-drop, length-drop, get_or-eq_default}
 use lib.Seq.{length-take-le, drop_at}
-use borrow.Author.Tests.{le-leb, lt-leb, le-ltb, lt-ltb, not-true}
+use borrow.Author.Tests.{le-ltb, lt-ltb, lt-leb, not-true}
 use borrow.Rule.Slice.PartMut.{mid_of, put_mid, mid_len, same_len_mid}
+use Rattle.std.specs.Prelude.{Some, None, Ok}
+use Rattle.spec_bytes.specs.declared.refusal.Refusal.{Refusal}
+use Rattle.spec_bytes.specs.declared.refusal.Refusal.TheVariants.{NoSuchId, SessionClosed}
+use Rattle.spec_bytes.specs.Refusals.{refusal_number}
 use Rattle.spec_bytes.specs.words.Words.{get_word}
+use Rattle.spec_opening.proofs.Opens.{some_number}
 use Rattle.spec_bytes.proofs.words.Laws.{le_or_lt}
 use Rattle.spec_c_dumper.specs.rules.Machine.{Out}
 use Rattle.spec_c_dumper.specs.rules.Types.{table_of}
@@ -20,12 +25,10 @@ use Rattle.spec_c_dumper.specs.rules.Request.{dumped}
 use Rattle.spec_type_table.specs.declared.types.TypeTable.{TypeTable}
 use Rattle.spec_type_table.specs.Table.{btf_of}
 use Rattle.spec_session.specs.emission.Sheet.{Sheet, work_machine}
-use Rattle.spec_session.specs.declared.session.Answer.TheVariants.{Refused}
+use Rattle.spec_session.specs.session.Answers.{Refused, answer_is, number_of, answer_of, stays_open}
 use Rattle.spec_session.specs.declared.session.Session.{Session}
 use Rattle.spec_session.specs.declared.session.Turn.{Turn}
-use Rattle.spec_session.specs.declared.session.Reached.{Reached}
-use Rattle.spec_session.specs.session.Answers.{number_of, answer_of}
-use Rattle.spec_session.specs.session.Turns.{call_of, turn_of, is_current, Reach, reached, refused_by, reach_of, with_text, then_zeros, settled, table_for, visits_in}
+use Rattle.spec_session.specs.session.Turns.{Call, call_of, refused_turn, is_current, Reach, reached, refused_by, reach_of, with_text, then_zeros, settled, table_for, visits_in}
 use Rattle.spec_session.proofs.session.Laws.{reach_accepted, reach_refused, zeros_twice}
 use Rattle.spec_session.specs.calls.Refusals.{number, value}
 use Rattle.spec_session.specs.calls.Calls.{came_to, lent_to, requested}
@@ -48,7 +51,7 @@ use Rattle.session_requests.specs.declared.options.Progress.{Progress}
 use Rattle.session_requests.specs.declared.options.Tallied.{Tallied}
 use Rattle.session_requests.specs.declared.options.Ended.{Ended}
 use Rattle.session_requests.specs.options.Requests.{Stage, stage_of, fits_under, made_under, requested_listed, requested_under, requested_with, CallWith, ended_of, settled_with, as_it_was, type_call_with}
-use Rattle.session_requests.specs.options.Lists.{front_with, go_on_with, list_from_with, list_call_with, cleared_if, list_after, end_with}
+use Rattle.session_requests.specs.options.Lists.{front_with, go_on_with, list_from_with, list_call_with, cleared_if, tally_of, unknown_after, list_after, end_with}
 
 -- ---- the calls of a list
 pub goes_on : (n : ℕ) (d : CallWith) (f : CallWith → CallWith) → number_of d.call.answer ≡ 0 → go_on_with n d f ≡ front_with d.count (take (d.count * 12) d.list) (f d)
@@ -122,17 +125,17 @@ module _ (room : ℕ) (b : TypeTable) (s : List ℕ) (id len v : ℕ) (w t : Lis
     number_same : {a a' : ℕ} {d d' : ℕ} {e e' : ℕ} {u u' : List ℕ} → refused_by a d e u ≡ refused_by a' d' e' u' → a ≡ a'
     number_same q = cc
 
-    plain_large : (c len' v' : ℕ) (t' : List ℕ) → requested b s id len v w t ≡ refused_by c len' v' t' → 10 < c
+    plain_large : (c len' v' : ℕ) (t' : List ℕ) → requested b s id len v w t ≡ refused_by c len' v' t' → 12 ≤ c
     plain_large c len' v' t' q =
         let z = (sane_listed len (take len t) (length t) (requested b s id len v w t) (request_sane len (take len t) (length t) len t (le_refl len) short refl refl b s id v w) c len' v' t' q).0 in
         omega (arith, z)
 
-    listed_large : (lists : Bool) (c len' v' : ℕ) (t' : List ℕ) → (requested_listed (up_to room) b s lists id [] len v w t).reach ≡ refused_by c len' v' t' → 10 < c
+    listed_large : (lists : Bool) (c len' v' : ℕ) (t' : List ℕ) → (requested_listed (up_to room) b s lists id [] len v w t).reach ≡ refused_by c len' v' t' → 12 ≤ c
     unfolding requested_listed
     listed_large true c len' v' t' q = ⊎_elim (λ p. plain_large c len' v' t' (sym p ∙ q)) (λ p. let z : 17 ≡ c = number_same (sym p ∙ q) in omega arith) noted_reach
     listed_large false c len' v' t' q = plain_large c len' v' t' q
 
-    pub with_large : (o : Options) (k c len' v' : ℕ) (t' : List ℕ) → (requested_with o (up_to room) b s id [] len v w t k).reach ≡ refused_by c len' v' t' → 10 < c
+    pub with_large : (o : Options) (k c len' v' : ℕ) (t' : List ℕ) → (requested_with o (up_to room) b s id [] len v w t k).reach ≡ refused_by c len' v' t' → 12 ≤ c
     unfolding requested_with requested_under
     with_large o k c len' v' t' q = go (fits_under (is_counted o) (most_calls o) k (calls_in b s w id)) q
       where
@@ -143,7 +146,7 @@ module _ (room : ℕ) (b : TypeTable) (s : List ℕ) (id len v : ℕ) (w t : Lis
             made = made_under (is_counted o) k (calls_in b s w id);
           }
           | false ↦ record { reach = refused_by 22 len v (take len t); entries = []; made = (most_calls o) }
-        ]).reach ≡ refused_by c len' v' t' → 10 < c
+        ]).reach ≡ refused_by c len' v' t' → 12 ≤ c
         go true p = listed_large (is_listed o) c len' v' t' p
         go false p = let z : 22 ≡ c = number_same p in omega arith
 
@@ -244,7 +247,7 @@ module _ (o : Options) (s : Session) (section : List ℕ) (es : s.section_len �
       none_more : c ≡ c + 0
       none_more = omega arith
 
-      pub list_done : n ≤ k → end_with s (record { tally = record { len = len; number = 0; accepted = k; visits = v }; count = c; made = m }) w t l ≡ whole
+      pub list_done : n ≤ k → end_with s (record { tally = record { len = len; stop = None; accepted = k; visits = v }; count = c; made = m }) w t l ≡ whole
       unfolding end_with list_end list_after ids_from list_from_with
       list_done i =
           let z : n - k ≡ 0 = omega arith in
@@ -262,7 +265,7 @@ module _ (o : Options) (s : Session) (section : List ℕ) (es : s.section_len �
             ∙ ap (λ (x : List ℕ). front_with c (take (c * 12) l) (list_from_with o k N section w (tailed k len t) behind_them x m)) (ids_cons ids k n i)
             ∙ ap (λ (x : ℕ). front_with c (take (c * 12) l) (go_on_with k (type_call_with o N section w (tailed k len t) x behind_them m) later)) (sym ei)
 
-        pub list_past : s.types ≤ id → end_with s (record { tally = record { len = len; number = 10; accepted = k; visits = v }; count = c; made = m }) w t l ≡ whole
+        pub list_past : s.types ≤ id → end_with s (record { tally = record { len = len; stop = Some NoSuchId; accepted = k; visits = v }; count = c; made = m }) w t l ≡ whole
         unfolding end_with list_end list_after number_of call_of
         list_past p =
             (λ j. record { call = call_of N (answer_of 10 k) w (tailed k len t); count = none_more j; list = list_whole j; made = m })
@@ -348,7 +351,7 @@ module _ (o : Options) (s : Session) (section : List ℕ) (es : s.section_len �
           unfolding tailed
           tailed_more = ap (λ (x : ℕ). tailed x ((c + d.count) * 12) l') (add-one k)
 
-          pub list_more : length t' ≡ length t → (fit : d.reached.len ≤ length t') → d.reached.number ≡ 0 → (t'' : List ℕ) → t'' ≡ cleared_if (is_listed o) d.reached.len t' → (x : ℕ) → x ≡ visits_in w'
+          pub list_more : length t' ≡ length t → (fit : d.reached.len ≤ length t') → d.reached.stop ≡ None → (t'' : List ℕ) → t'' ≡ cleared_if (is_listed o) d.reached.len t' → (x : ℕ) → x ≡ visits_in w'
               → Rest (k + 1) d.reached.len x (c + d.count) d.made w' t'' l'
           unfolding settled
           list_more lt fit z t'' et x ex =
@@ -359,33 +362,43 @@ module _ (o : Options) (s : Session) (section : List ℕ) (es : s.section_len �
               ((ap (λ (y : ℕ). then_zeros y d.reached.len t') (sym lt) ∙ sym (ap (λ (y : ℕ). tailed y d.reached.len t'') (add-one k) ∙ ap (tailed (suc k) d.reached.len) et ∙ cleared_tail d.reached.len t' fit (is_listed o) k)) j)
               ((tails ∙ ap (drop ((c + d.count) * 12)) (sym tailed_more)) j) (ids_from ids (k + 1) (n - (k + 1))) d.made))
 
-          large : (d.reached.number ≡ 0 → ⊥) → 10 < d.reached.number
-          unfolding stage_of
-          large z = with_large (entries_in mid) (table_for s section) section id len v w t h o m d.reached.number d.reached.len d.reached.visits (take d.reached.len t')
-              (ap (λ (x : Stage). x.reach) reach_is ∙ reach_refused d.reached w' t' z)
+          module _ (x : Refusal) (z : d.reached.stop ≡ Some x) where
+            large : 12 ≤ refusal_number x
+            unfolding stage_of
+            large = with_large (entries_in mid) (table_for s section) section id len v w t h o m (refusal_number x) d.reached.len d.reached.visits (take d.reached.len t')
+                (ap (λ (y : Stage). y.reach) reach_is ∙ reach_refused d.reached w' t' x z)
 
-          pub list_stop : length w' ≡ length w → length t' ≡ length t → (d.reached.number ≡ 0 → ⊥)
-              → end_with s (record { tally = record { len = d.reached.len; number = d.reached.number; accepted = k; visits = d.reached.visits }; count = c + d.count; made = d.made }) w' t' l' ≡ whole
-          unfolding end_with list_end list_after settled
-          list_stop lw lt z =
-              rw (lt-leb d.reached.number 10 (large z), list_end, list_after)
-              (sym (onward (refused_by d.reached.number d.reached.len d.reached.visits (take d.reached.len t')) (reach_refused d.reached w' t' z)
-              ∙ ap (front_with c (take (c * 12) l)) (stops_at k d.reached.number (came (refused_by d.reached.number d.reached.len d.reached.visits (take d.reached.len t'))) later (number_is d.reached.number d.reached.len) z)
-              ∙ (λ j. record {
-                call = (sym (λ i. call_of (with_text s false d.reached.len d.reached.visits) (answer_of d.reached.number k) (replicate (lw i) 0) (then_zeros (lt i) d.reached.len (take d.reached.len t')))
-                    ∙ ap (call_of (with_text s false d.reached.len d.reached.visits) (answer_of d.reached.number k) (replicate (length w') 0)) (zeros_twice (length t') d.reached.len t')) j;
-                count = c + d.count;
-                list = ending j;
-                made = d.made;
-              })))
-            where
-              ending : take (c * 12) l ++ zeroed ≡ then_zeros (length l') ((c + d.count) * 12) l'
-              ending =
-                  ap (λ (y : List ℕ). take (c * 12) l ++ y) (sym (take-append-drop (d.count * 12) zeroed))
-                  ∙ sym (append_assoc (take (c * 12) l) (take (d.count * 12) zeroed) (drop (d.count * 12) zeroed))
-                  ∙ (λ j. heads j ++ tails j)
-                  ∙ ap (λ (y : List ℕ). y ++ drop ((c + d.count) * 12) (then_zeros (length l') ((c + d.count) * 12) l')) (sym (zeros_head ((c + d.count) * 12) (length l') l' both_room both_room ((c + d.count) * 12) (le_refl ((c + d.count) * 12))))
-                  ∙ take-append-drop ((c + d.count) * 12) (then_zeros (length l') ((c + d.count) * 12) l')
+            abbrev ended : Call
+            ended = call_of (with_text s false d.reached.len d.reached.visits) (answer_of (refusal_number x) k) (replicate (length w') 0) (then_zeros (length t') d.reached.len t')
+
+            -- what the code leaves
+            closed : end_with s (tally_of (record { reached = d.reached; count = c + d.count; made = d.made }) k) w' t' l' ≡ record { call = ended; count = c + d.count; list = then_zeros (length l') ((c + d.count) * 12) l'; made = d.made }
+            unfolding end_with list_end list_after call_of
+            closed =
+                (λ j. end_with s (record { tally = record { len = d.reached.len; stop = z j; accepted = k; visits = d.reached.visits }; count = c + d.count; made = d.made }) w' t' l')
+                ∙ rw (lt-leb (refusal_number x) 10 (omega (arith, large)), list_end, list_after) refl
+
+            pub list_stop : length w' ≡ length w → length t' ≡ length t → end_with s (tally_of (record { reached = d.reached; count = c + d.count; made = d.made }) k) w' t' l' ≡ whole
+            unfolding settled call_of
+            list_stop lw lt =
+                closed
+                ∙ sym (onward (refused_by (refusal_number x) d.reached.len d.reached.visits (take d.reached.len t')) (reach_refused d.reached w' t' x z)
+                ∙ ap (front_with c (take (c * 12) l)) (stops_at k (refusal_number x) (came (refused_by (refusal_number x) d.reached.len d.reached.visits (take d.reached.len t'))) later (number_is (refusal_number x) d.reached.len) (some_number x))
+                ∙ (λ j. record {
+                  call = (sym (λ i. call_of (with_text s false d.reached.len d.reached.visits) (answer_of (refusal_number x) k) (replicate (lw i) 0) (then_zeros (lt i) d.reached.len (take d.reached.len t')))
+                      ∙ ap (call_of (with_text s false d.reached.len d.reached.visits) (answer_of (refusal_number x) k) (replicate (length w') 0)) (zeros_twice (length t') d.reached.len t')) j;
+                  count = c + d.count;
+                  list = ending j;
+                  made = d.made;
+                }))
+              where
+                ending : take (c * 12) l ++ zeroed ≡ then_zeros (length l') ((c + d.count) * 12) l'
+                ending =
+                    ap (λ (y : List ℕ). take (c * 12) l ++ y) (sym (take-append-drop (d.count * 12) zeroed))
+                    ∙ sym (append_assoc (take (c * 12) l) (take (d.count * 12) zeroed) (drop (d.count * 12) zeroed))
+                    ∙ (λ j. heads j ++ tails j)
+                    ∙ ap (λ (y : List ℕ). y ++ drop ((c + d.count) * 12) (then_zeros (length l') ((c + d.count) * 12) l')) (sym (zeros_head ((c + d.count) * 12) (length l') l' both_room both_room ((c + d.count) * 12) (le_refl ((c + d.count) * 12))))
+                    ∙ take-append-drop ((c + d.count) * 12) (then_zeros (length l') ((c + d.count) * 12) l')
 
   list_start : (w t l : List ℕ) → is_current s (length section) (length w) (length t) ≡ true → (ids : List ℕ) (n : ℕ) → n ≡ count_in ids → (b : TypeTable) (eb : b ≡ table_for s section)
       → Rest b eb ids n (list_call_with o s section w t (ids_in ids) l) 0 s.text_len s.visits 0 0 w t l
@@ -403,57 +416,60 @@ module _ (o : Options) (s : Session) (section : List ℕ) (es : s.section_len �
       zeroed m = omega arith
 
   pub list_begin : (w t l : List ℕ) → is_current s (length section) (length w) (length t) ≡ true → (ids : List ℕ) (n : ℕ) → n ≡ count_in ids → (b : TypeTable) (eb : b ≡ table_for s section)
-      → (r : Progress) → r ≡ record { reached = record { len = s.text_len; number = 0; visits = s.visits }; count = 0; made = 0 }
+      → (r : Progress) → r ≡ record { reached = record { len = s.text_len; stop = None; visits = s.visits }; count = 0; made = 0 }
       → Rest b eb ids n (list_call_with o s section w t (ids_in ids) l) 0 r.reached.len r.reached.visits r.count r.made w t l
   list_begin w t l h ids n e b eb r er =
       subst (λ (x : Progress). Rest b eb ids n (list_call_with o s section w t (ids_in ids) l) 0 x.reached.len x.reached.visits x.count x.made w t l) (sym er) (list_start w t l h ids n e b eb)
 
-pub tally_is : (r : Tallied) (q : Reached) (k c m : ℕ) → r ≡ record { tally = record { len = q.len; number = q.number; accepted = k; visits = q.visits }; count = c; made = m } → (s : Session) (w t l : List ℕ) (whole : CallWith)
-    → end_with s (record { tally = record { len = q.len; number = q.number; accepted = k; visits = q.visits }; count = c; made = m }) w t l ≡ whole → end_with s r w t l ≡ whole
-tally_is r q k c m e s w t l whole f = ap (λ (x : Tallied). end_with s x w t l) e ∙ f
+module _ (r : Tallied) (s : Session) (w t l : List ℕ) (whole : CallWith) where
+  pub tally_is : (p : Progress) (k : ℕ) → r ≡ tally_of p k → end_with s (tally_of p k) w t l ≡ whole → end_with s r w t l ≡ whole
+  tally_is p k e f = ap (λ (x : Tallied). end_with s x w t l) e ∙ f
 
-pub tally_past : (r : Tallied) (p q : Reached) (k c m : ℕ) → r ≡ record { tally = record { len = q.len; number = q.number; accepted = k; visits = q.visits }; count = c; made = m } → q ≡ record { len = p.len; number = 10; visits = p.visits }
-    → (s : Session) (w t l : List ℕ) (whole : CallWith) → end_with s (record { tally = record { len = p.len; number = 10; accepted = k; visits = p.visits }; count = c; made = m }) w t l ≡ whole → end_with s r w t l ≡ whole
-tally_past r p q k c m e f s w t l whole g =
-    ap (λ (x : Tallied). end_with s x w t l) (e ∙ (λ i. record { tally = record { len = (f i).len; number = (f i).number; accepted = k; visits = (f i).visits }; count = c; made = m })) ∙ g
+  pub tally_past : (p q : Progress) (k : ℕ) → r ≡ tally_of q k → q ≡ unknown_after p → end_with s (tally_of (unknown_after p) k) w t l ≡ whole → end_with s r w t l ≡ whole
+  tally_past p q k e f g = ap (λ (x : Tallied). end_with s x w t l) (e ∙ ap (λ (x : Progress). tally_of x k) f) ∙ g
 
-pub tally_done : (r : Tallied) (q : Reached) (n k c m : ℕ) → r ≡ record { tally = record { len = q.len; number = q.number; accepted = n; visits = q.visits }; count = c; made = m } → n ≡ k → q.number ≡ 0
-    → (s : Session) (w t l : List ℕ) (whole : CallWith) → end_with s (record { tally = record { len = q.len; number = 0; accepted = k; visits = q.visits }; count = c; made = m }) w t l ≡ whole → end_with s r w t l ≡ whole
-tally_done r q n k c m e nk z s w t l whole f =
-    ap (λ (x : Tallied). end_with s x w t l) (e ∙ (λ i. record { tally = record { len = q.len; number = z i; accepted = nk i; visits = q.visits }; count = c; made = m })) ∙ f
+  pub tally_done : (p : Progress) (n k : ℕ) → r ≡ tally_of p n → n ≡ k → p.reached.stop ≡ None
+      → end_with s (record { tally = record { len = p.reached.len; stop = None; accepted = k; visits = p.reached.visits }; count = p.count; made = p.made }) w t l ≡ whole → end_with s r w t l ≡ whole
+  tally_done p n k e nk z f =
+      ap (λ (x : Tallied). end_with s x w t l) (e ∙ (λ i. record { tally = record { len = p.reached.len; stop = z i; accepted = nk i; visits = p.reached.visits }; count = p.count; made = p.made })) ∙ f
 
-pub tally_room : (r : Tallied) (q : Reached) (k c m : ℕ) → r ≡ record { tally = record { len = q.len; number = q.number; accepted = k; visits = q.visits }; count = c; made = m } → (n : ℕ) → c ≤ n → r.count ≤ n
-tally_room r q k c m e n h = subst (λ (x : ℕ). x ≤ n) (sym (ap (λ (x : Tallied). x.count) e)) h
+pub tally_room : (r : Tallied) (p : Progress) (k n : ℕ) → r ≡ tally_of p k → p.count ≤ n → r.count ≤ n
+tally_room r p k n e h = subst (λ (x : ℕ). x ≤ n) (sym (ap (λ (x : Tallied). x.count) e)) h
 
 pub sum_room : (l : List ℕ) (c d : ℕ) → c ≤ entries_in l → d ≤ entries_in (mid_of (c * 12) (length l - c * 12) l) → c + d ≤ entries_in l
 sum_room l c d h k = omega (arith, mid_len (c * 12) (length l) l (omega arith))
 
 -- ---- clear_after
 module _ (r : Tallied) (l : List ℕ) where
-  pub after_none : r.tally.number ≤ 10 → r.tally.accepted ≡ 0 → l ≡ list_after r l
+  pub after_none : stays_open r.tally.stop ≡ true → r.tally.accepted ≡ 0 → l ≡ list_after r l
   unfolding list_after tailed
-  after_none h z = sym (ap (λ (k : ℕ). tailed k (r.count * 12) l) z) ∙ sym (rw (le-leb r.tally.number 10 h, list_after))
+  after_none h z = sym (ap (λ (k : ℕ). tailed k (r.count * 12) l) z) ∙ sym (rw (h, list_after))
 
-  pub after_some : r.tally.number ≤ 10 → (r.tally.accepted ≡ 0 → ⊥) → (l' : List ℕ) → l' ≡ then_zeros (length l) (r.count * 12) l → l' ≡ list_after r l
-  unfolding list_after
-  after_some h z l' e = tail_zeroed r.tally.accepted (r.count * 12) l l' z e ∙ sym (rw (le-leb r.tally.number 10 h, list_after))
+  module _ (l' : List ℕ) (e : l' ≡ then_zeros (length l) (r.count * 12) l) where
+    pub after_some : (r.tally.accepted ≡ 0 → ⊥) → l' ≡ list_after r l
+    unfolding list_after
+    after_some z = go (stays_open r.tally.stop) refl
+      where
+        go : (q : Bool) → stays_open r.tally.stop ≡ q → l' ≡ list_after r l
+        go true h = tail_zeroed r.tally.accepted (r.count * 12) l l' z e ∙ sym (rw (h, list_after))
+        go false h = e ∙ sym (rw (h, list_after))
 
-  pub after_closed : 10 < r.tally.number → (l' : List ℕ) → l' ≡ then_zeros (length l) (r.count * 12) l → l' ≡ list_after r l
-  unfolding list_after
-  after_closed h l' e = e ∙ sym (rw (lt-leb r.tally.number 10 h, list_after))
+    pub after_closed : stays_open r.tally.stop ≡ false → l' ≡ list_after r l
+    unfolding list_after
+    after_closed h = e ∙ sym (rw (h, list_after))
 
--- ---- request_list
+-- ---- list_with
 module _ (o : Options) (s : Session) (section w t l ids : List ℕ) where
-  pub list_empty : length ids < 4 → (turn : Turn) → turn ≡ turn_of s (answer_of 0 0) → ended_of (record { turn = turn; count = 0; made = 0 }) w t l ≡ list_call_with o s section w t (ids_in ids) l
-  unfolding list_call_with list_from_with ended_of turn_of
-  list_empty h turn et = (λ i. record { call = call_of (et i).session (et i).answer w t; count = 0; list = l; made = 0 }) ∙ sym (ap (λ (x : List ℕ). list_from_with o 0 s section w t l x 0) (ids_none ids h))
+  pub list_empty : length ids < 4 → ended_of (record { turn = record { session = s; answer = Ok 0 }; count = 0; made = 0 }) w t l ≡ list_call_with o s section w t (ids_in ids) l
+  unfolding list_call_with list_from_with ended_of answer_of
+  list_empty h = sym (ap (λ (x : List ℕ). list_from_with o 0 s section w t l x 0) (ids_none ids h))
 
   not_current : (id : ℕ) → is_current s (length section) (length w) (length t) ≡ false → type_call_with o s section w t id l 0 ≡ as_it_was (call_of s (Refused 11 s.text_len) w t) l 0
   unfolding type_call_with call_of number value answer_of
   not_current id e = rw (e, type_call_with) refl
 
-  pub list_11 : (q : Bool) → q ≡ is_current s (length section) (length w) (length t) → 4 ≤ length ids → not q ≡ true → (r : Ended) → r ≡ record { turn = turn_of s (answer_of 11 0); count = 0; made = 0 } → ended_of r w t l ≡ list_call_with o s section w t (ids_in ids) l
-  unfolding list_call_with list_from_with ended_of turn_of number_of call_of
+  pub list_11 : (q : Bool) → q ≡ is_current s (length section) (length w) (length t) → 4 ≤ length ids → not q ≡ true → (r : Ended) → r ≡ record { turn = refused_turn s SessionClosed 0; count = 0; made = 0 } → ended_of r w t l ≡ list_call_with o s section w t (ids_in ids) l
+  unfolding list_call_with list_from_with ended_of number_of call_of answer_of
   list_11 q eq i h r er =
       ap (λ (x : Ended). ended_of x w t l) er
       ∙ sym (ap (λ (x : List ℕ). list_from_with o 0 s section w t l x 0) (ids_some ids i)
@@ -463,7 +479,7 @@ module _ (o : Options) (s : Session) (section w t l ids : List ℕ) where
       later : CallWith → CallWith
       later x = list_from_with o 1 x.call.session section x.call.work x.call.text (drop (x.count * 12) x.list) (ids_from ids 1 (count_in ids - 1)) x.made
 
-  pub list_ends : (turn : Turn) (r : Tallied) (w' t' l' w'' t'' l'' : List ℕ) → call_of turn.session turn.answer w'' t'' ≡ list_end s r.tally w' t' → l'' ≡ list_after r l'
+  pub list_ends : (turn : Turn) (r : Tallied) (w' t' l' w'' t'' l'' : List ℕ) → call_of turn.session (answer_is turn.answer) w'' t'' ≡ list_end s r.tally w' t' → l'' ≡ list_after r l'
       → end_with s r w' t' l' ≡ list_call_with o s section w t (ids_in ids) l → ended_of (record { turn = turn; count = r.count; made = r.made }) w'' t'' l'' ≡ list_call_with o s section w t (ids_in ids) l
   unfolding ended_of end_with
   list_ends turn r w' t' l' w'' t'' l'' e el f = (λ i. record { call = e i; count = r.count; list = el i; made = r.made }) ∙ f

@@ -1,13 +1,18 @@
--- A list of ids with its options: the single requests for them in their order, up to and including the first that is refused, each lent
--- session, work and text as the one before left them, of the list what follows the entries so far, and the calls made before.
-use Rattle.std.specs.Prelude.{ℕ, zero, suc, ◌+◌, ◌*◌, Bool, true, false, List, [], ◌∷◌, ◌++◌, length, take, drop, leb}
+-- A list of ids with its options, and a call by what is wanted. A list is the single requests for them in their order, up to and including
+-- the first that is refused, each lent session, work and text as the one before left them, of the list what follows the entries so far, and
+-- the calls made before.
+use Rattle.std.specs.Prelude.{ℕ, zero, suc, ◌+◌, ◌*◌, Bool, true, false, List, [], ◌∷◌, ◌++◌, length, take, drop, Some}
+use Rattle.spec_bytes.specs.declared.refusal.Refusal.TheVariants.{NoSuchId}
 use Rattle.spec_session.specs.declared.session.Session.{Session}
-use Rattle.spec_session.specs.session.Answers.{number_of, answer_of}
+use Rattle.spec_session.specs.session.Answers.{number_of, answer_of, stays_open}
 use Rattle.spec_session.specs.session.Turns.{call_of, then_zeros}
-use Rattle.spec_session.specs.calls.Lists.{tailed, list_end}
+use Rattle.spec_session.specs.calls.Lists.{ids_in, tailed, list_end}
 use Rattle.session_requests.specs.declared.options.Options.{Options}
+use Rattle.session_requests.specs.declared.options.Wanted.{Wanted}
+use Rattle.session_requests.specs.declared.options.Wanted.TheVariants.{One, All, Ids}
+use Rattle.session_requests.specs.declared.options.Progress.{Progress}
 use Rattle.session_requests.specs.declared.options.Tallied.{Tallied}
-use Rattle.session_requests.specs.options.Requests.{CallWith, type_call_with}
+use Rattle.session_requests.specs.options.Requests.{CallWith, type_call_with, types_call_with}
 
 -- what comes after some entries, which stand in the first bytes of the list
 abbrev pub front_with : ℕ → List ℕ → CallWith → CallWith
@@ -37,6 +42,12 @@ list_from_with o n s section work text list (id ∷ ids) k =
 unfoldable pub list_call_with : Options → Session → List ℕ → List ℕ → List ℕ → List ℕ → List ℕ → CallWith
 list_call_with o s section work text ids list = list_from_with o 0 s section work text list ids 0
 
+-- ---- a call, by what is wanted
+abbrev pub call_with : Options → Session → List ℕ → List ℕ → List ℕ → Wanted → List ℕ → CallWith
+call_with o s section work text (One id) list = type_call_with o s section work text id list 0
+call_with o s section work text All list = types_call_with o s section work text list
+call_with o s section work text (Ids ids) list = list_call_with o s section work text (ids_in ids.now) list
+
 -- ---- the code's way: 11 is tested once, and what follows the text and the entries is zeroed once
 
 -- with a list the text is zeroed after each id
@@ -44,10 +55,25 @@ unfoldable pub cleared_if : Bool → ℕ → List ℕ → List ℕ
 cleared_if true len t = then_zeros (length t) len t
 cleared_if false len t = t
 
+-- where the ids of a list have come to, of which so many were accepted; and after an id that is not below the count of types
+abbrev pub tally_of : Progress → ℕ → Tallied
+tally_of p accepted = record {
+  tally = record { len = p.reached.len; stop = p.reached.stop; accepted = accepted; visits = p.reached.visits };
+  count = p.count;
+  made = p.made;
+}
+
+abbrev pub unknown_after : Progress → Progress
+unknown_after p = record {
+  reached = record { len = p.reached.len; stop = Some NoSuchId; visits = p.reached.visits };
+  count = p.count;
+  made = p.made;
+}
+
 -- the list after so many accepted ids, as `tailed` has the text; a refusal that closes the session zeroes what follows the entries
 unfoldable pub list_after : Tallied → List ℕ → List ℕ
 list_after r l =
-    elim (leb r.tally.number 10) [
+    elim (stays_open r.tally.stop) [
       | true ↦ tailed r.tally.accepted (r.count * 12) l
       | false ↦ then_zeros (length l) (r.count * 12) l
     ]

@@ -1,6 +1,7 @@
 -- What the options of a call say.
-use Rattle.std.specs.Prelude.{ℕ, Bool, true, false}
-use Rattle.c_dumper_dependency_order.specs.declared.begin.Ceiling.{Ceiling}
+use Rattle.std.specs.Prelude.{ℕ, Bool, true, false, Option, Some, None, Result, Ok}
+use Rattle.spec_bytes.specs.declared.refusal.Refusal.{Refusal}
+use Rattle.c_dumper_dependency_order.specs.ways.Idle.{idle_in}
 use Rattle.session_requests.specs.declared.options.Options.{Options}
 use Rattle.session_requests.specs.declared.options.Options.TheVariants.{Plain, Within, Listed}
 
@@ -22,5 +23,13 @@ most_calls Plain = 0
 most_calls (Within c) = c
 most_calls Listed = 0
 
-abbrev pub ceiling_of : Options → Ceiling
-ceiling_of o = record { is_set = is_counted o; calls = most_calls o }
+abbrev pub ceiling_of : Options → Option ℕ
+ceiling_of Plain = None
+ceiling_of (Within c) = Some c
+ceiling_of Listed = None
+
+-- the calls made after a request that has nothing to do, where k were made before it: it opens one, which only a ceiling counts
+abbrev pub idle_made : Options → ℕ → Result ℕ Refusal
+idle_made Plain k = Ok k
+idle_made (Within c) k = idle_in k c
+idle_made Listed k = Ok k

@@ -1,9 +1,10 @@
 -- Requests with their options, a ceiling on the calls of ordering and a list that gets an entry for each line: one id, and all ids. The
 -- calls without options, under a ceiling and with a list are cases of these (proofs/options/Cases).
-use Rattle.std.specs.Prelude.{ℕ, zero, suc, ◌+◌, ◌-◌, ◌≤◌, ◌≡◌, Bool, true, false, List, [], length, take, leb, ltb}
+use Rattle.std.specs.Prelude.{ℕ, zero, suc, ◌+◌, ◌-◌, ◌≤◌, ◌≡◌, Bool, true, false, List, [], length, take, leb, ltb, Some, None, Ok, Err}
 use Rattle.spec_type_table.specs.declared.types.TypeTable.{TypeTable}
 use Rattle.spec_c_dumper.specs.origins.Causes.{Entry, up_to, filled, entries_in}
 use Rattle.spec_session.specs.declared.session.Session.{Session}
+use Rattle.spec_session.specs.session.Answers.{answer_is}
 use Rattle.spec_session.specs.session.Turns.{Call, call_of, is_current, table_for, Reach, reached, refused_by, visits_in, reach_of}
 use Rattle.spec_session.specs.session.Turns.{settled, unchanged}
 use Rattle.spec_session.specs.calls.Refusals.{not_current, id_not_below, refusal}
@@ -13,9 +14,8 @@ use Rattle.spec_session.specs.metered.Within.{Within, CallWithin}
 use Rattle.spec_session.specs.metered.Metered.{calls_in}
 use Rattle.c_dumper_emit.specs.entries.Noted.{entries_of}
 use Rattle.c_dumper_emit.specs.dump_type.Kept.{Before}
-use Rattle.c_dumper_dependency_order.specs.ways.Idle.{idle_in}
 use Rattle.session_requests.specs.declared.options.Options.{Options}
-use Rattle.session_requests.specs.options.Options.{is_listed, is_counted, most_calls}
+use Rattle.session_requests.specs.options.Options.{is_listed, is_counted, most_calls, idle_made}
 use Rattle.session_requests.specs.declared.options.Progress.{Progress}
 use Rattle.session_requests.specs.declared.options.Ended.{Ended}
 
@@ -85,19 +85,19 @@ module _ (o : Options) (more : ℕ → Bool) (b : TypeTable) (s : List ℕ) wher
   requested_from_with zero id es len w t k = record { reach = reached len w t; entries = es; made = k }
   requested_from_with (suc n) id es len w t k = onward_with (requested_with id es len (visits_in w) w t k) (requested_from_with n (suc id))
 
--- a request that has nothing to write opens one call, which only a ceiling counts
+-- a request that has nothing to write
 unfoldable pub idle_after : Progress → Options → Progress
 idle_after p o =
-    elim (is_counted o) [
-      | false ↦ record {
-        reached = record { len = p.reached.len; number = 0; visits = p.reached.visits };
+    elim (idle_made o p.made) [
+      | Ok k ↦ record {
+        reached = record { len = p.reached.len; stop = None; visits = p.reached.visits };
+        count = p.count;
+        made = k;
+      }
+      | Err c ↦ record {
+        reached = record { len = p.reached.len; stop = Some c; visits = p.reached.visits };
         count = p.count;
         made = p.made;
-      }
-      | true ↦ record {
-        reached = record { len = p.reached.len; number = (idle_in p.made (most_calls o)).number; visits = p.reached.visits };
-        count = p.count;
-        made = (idle_in p.made (most_calls o)).made;
       }
     ]
 
@@ -109,14 +109,14 @@ pub record CallWith : Type 0 where
   pub made : ℕ
 
 unfoldable pub ended_of : Ended → List ℕ → List ℕ → List ℕ → CallWith
-ended_of r w t l = record { call = call_of r.turn.session r.turn.answer w t; count = r.count; list = l; made = r.made }
+ended_of r w t l = record { call = call_of r.turn.session (answer_is r.turn.answer) w t; count = r.count; list = l; made = r.made }
 
 -- the same of today's calls: under a ceiling, and with a list
 unfoldable pub counted_of : Ended → List ℕ → List ℕ → CallWithin
-counted_of r w t = record { call = call_of r.turn.session r.turn.answer w t; made = r.made }
+counted_of r w t = record { call = call_of r.turn.session (answer_is r.turn.answer) w t; made = r.made }
 
 unfoldable pub explained_of : Ended → List ℕ → List ℕ → List ℕ → CauseCall
-explained_of r w t l = record { call = call_of r.turn.session r.turn.answer w t; count = r.count; list = l }
+explained_of r w t l = record { call = call_of r.turn.session (answer_is r.turn.answer) w t; count = r.count; list = l }
 
 unfoldable pub settled_with : Session → ℕ → ℕ → List ℕ → Stage → CallWith
 settled_with s work text list r = record {

@@ -7,7 +7,8 @@ use native.Mathlib.Omega.{arith}
 use native.Mathlib.Nat.{pow-succ'}
 use borrow.Author.Tests.{lt-ltb, le-ltb}
 use Rattle.spec_bytes.proofs.words.Laws.{le_or_lt}
-use Rattle.spec_bytes.specs.text.Text.{whole, put_out, put_text}
+use Rattle.spec_bytes.specs.text.Text.{whole}
+use Rattle.spec_bytes.specs.text.Placed.{Placed, put_out, put_text}
 use Rattle.spec_bytes.specs.text.Decimal.{digits, decimal}
 
 pub digits_one : (f n : ℕ) → n < 10 → digits (suc f) n ≡ (48 + n) ∷ []
@@ -37,8 +38,8 @@ pub decimal_more : (n : ℕ) → 10 ≤ n → n < 2 ^ 64 → decimal n ≡ decim
 unfolding decimal
 decimal_more n h l = digits_more 19 n h ∙ ap (λ (d : List ℕ). d ++ (48 + n % 10) ∷ []) (sym (digits_same 18 (n / 10) (omega arith)))
 
-pub put_one : (t : List ℕ) (at n r : ℕ) (u : List ℕ) → n < 10 → put_out r u ≡ put_text t at (whole ((48 + n) ∷ [])) → put_out r u ≡ put_text t at (whole (decimal n))
+pub put_one : (t : List ℕ) (at : Placed) (n : ℕ) (r : Placed) (u : List ℕ) → n < 10 → put_out r u ≡ put_text t at (whole ((48 + n) ∷ [])) → put_out r u ≡ put_text t at (whole (decimal n))
 put_one t at n r u h e = rw (decimal_one n h) e
 
-pub put_more : (t : List ℕ) (at n r : ℕ) (u : List ℕ) → 10 ≤ n → n < 2 ^ 64 → put_out r u ≡ put_text t at (whole (decimal (n / 10) ++ (48 + n % 10) ∷ [])) → put_out r u ≡ put_text t at (whole (decimal n))
+pub put_more : (t : List ℕ) (at : Placed) (n : ℕ) (r : Placed) (u : List ℕ) → 10 ≤ n → n < 2 ^ 64 → put_out r u ≡ put_text t at (whole (decimal (n / 10) ++ (48 + n % 10) ∷ [])) → put_out r u ≡ put_text t at (whole (decimal n))
 put_more t at n r u h l e = rw (decimal_more n h l) e

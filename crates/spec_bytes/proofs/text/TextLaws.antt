@@ -1,22 +1,26 @@
 -- Laws of texts that are written: the cases of `put_out` and `put_text`, one text after another, and what the steps of the
--- code of src/text.rt come to. Assumes nothing.
+-- code that writes come to. Assumes nothing.
 use Prim.Native.Nat.{ℕ, suc, min, ◌+◌, ◌-◌, ◌<◌, ◌≤◌}
 use mathlib.Core.Path.{◌≡◌, refl, ap, ap₂, ◌∙◌, sym}
 use mathlib.Core.List.{List, [], ◌∷◌, ◌++◌, append_assoc}
-use mathlib.Core.Bool.{true, false}
+use mathlib.Core.Bool.{true}
 use mathlib.Core.Logic.{⊎_elim}
 use native.Mathlib.Omega.{arith}
 use native.Mathlib.Nat.{add_assoc}
 use native.Mathlib.Numerals.{add-one}
-use lib.ListN.{length, set, take, drop, replicate, length-append, length-drop, length-set}
-use lib.Dec.{ltb}
+use lib.ListN.{length, set, take, drop, replicate, length-append, length-drop}
 use lib.Seq.{length-take-le, take_at, drop-drop, drop-append-add, set_split, append_snoc, paste, paste-zero, take-length}
 use borrow.Rule.Slice.PartMut.{put_mid}
-use borrow.Author.Tests.{le-leb, lt-leb, lt-ltb, le-ltb, ltb-true, ltb-false}
+use borrow.Author.Tests.{le-leb, lt-leb}
+use Rattle.std.specs.Prelude.{Ok, Err, IsErrAnd}
 use Rattle.std.proofs.lemmas.List.{take-replicate}
 use Rattle.std.proofs.lemmas.Slice.{put_mid-paste}
 use Rattle.spec_bytes.proofs.words.Laws.{le_or_lt}
-use Rattle.spec_bytes.specs.text.Text.{Text, whole, cut, join, bytes, done, stopped, is_stopped, put_out, place, written, put_text, pfx}
+use Rattle.spec_bytes.specs.Refusals.{refusal_number}
+use Rattle.spec_bytes.specs.declared.refusal.Refusal.{Refusal}
+use Rattle.spec_bytes.specs.declared.refusal.Refusal.TheVariants.{TextFull}
+use Rattle.spec_bytes.specs.text.Text.{Text, whole, cut, join, bytes, pfx}
+use Rattle.spec_bytes.specs.text.Placed.{done, stopped, is_stopped, Placed, put_out, place, written, put_text}
 
 module _ (t : List ℕ) (at : ℕ) (a : List ℕ) (h : at + length a ≤ length t) where
   head_length : length (take at t ++ a) ≡ at + length a
@@ -42,27 +46,13 @@ module _ (t : List ℕ) (at : ℕ) (a : List ℕ) (h : at + length a ≤ length 
 
 -- ---- the cases
 
-pub out_done : (r : ℕ) (t : List ℕ) → r ≤ length t → put_out r t ≡ done t r
-unfolding put_out
-out_done r t h = rw (le-leb r (length t) h, put_out)
-
-pub out_stopped : (r : ℕ) (t : List ℕ) → length t < r → put_out r t ≡ stopped (r - (length t + 1))
-unfolding put_out
-out_stopped r t h = rw (lt-leb r (length t) h, put_out)
-
-pub put_past : (t : List ℕ) (at : ℕ) (x : Text) → length t < at → put_text t at x ≡ stopped (at - (length t + 1))
+pub put_fits : (t : List ℕ) (at : ℕ) (x : Text) → length (bytes x) ≤ length t - at → put_text t (Ok at) x ≡ written t at x
 unfolding put_text
-put_past t at x h = rw (lt-leb at (length t) h, put_text)
+put_fits t at x h = rw (put_text, le-leb (length (bytes x)) (length t - at) h)
 
-pub put_fits : (t : List ℕ) (at : ℕ) (x : Text) → at + length (bytes x) ≤ length t → put_text t at x ≡ written t at x
+pub put_none : (t : List ℕ) (at : ℕ) (x : Text) → length t - at < length (bytes x) → put_text t (Ok at) x ≡ stopped 17
 unfolding put_text
-put_fits t at x h =
-    let l : at ≤ length t = omega arith in
-    rw (le-leb at (length t) l, put_text, le-leb (at + length (bytes x)) (length t) h)
-
-pub put_none : (t : List ℕ) (at : ℕ) (x : Text) → at ≤ length t → length t < at + length (bytes x) → put_text t at x ≡ stopped 17
-unfolding put_text
-put_none t at x l h = rw (le-leb at (length t) l, put_text, lt-leb (at + length (bytes x)) (length t) h)
+put_none t at x h = rw (put_text, lt-leb (length (bytes x)) (length t - at) h)
 
 pub whole_is : (t : List ℕ) (at : ℕ) (a : List ℕ) → written t at (whole a) ≡ done (place t at a) (at + length a)
 unfolding written
@@ -72,31 +62,54 @@ cut_is : (t : List ℕ) (at : ℕ) (a : List ℕ) (c : ℕ) → written t at (cu
 unfolding written
 cut_is t at a c = refl
 
-done_stopped : (t : List ℕ) (n c : ℕ) → done t n ≡ stopped c → ⊥
-done_stopped t n c e = let z : ◌≡◌ {A = ℕ} 0 1 = cc in omega arith
+-- after a refusal nothing is written
+pub put_past : (t : List ℕ) (c : Refusal) (x : Text) → put_out (Err c) t ≡ put_text t (Err c) x
+unfolding put_out put_text
+put_past t c x = refl
+
+-- so `?` hands on what stopped the writing
+pub put_ended : (t : List ℕ) (r : Placed) (c : Refusal) (x : Text) → IsErrAnd r (λ e. e ≡ c) → put_out r t ≡ put_text t (Err c) x
+put_ended t (Ok n) c x e = absurd e
+put_ended t (Err d) c x e = ap (λ k. put_out (Err k) t) e ∙ put_past t c x
 
 -- ---- one text after another
 
-module _ (t : List ℕ) (n : ℕ) where
+module _ (t : List ℕ) (n : Placed) where
   -- what was stopped stays so
   pub stays : (c : ℕ) (y : Text) → put_out n t ≡ stopped c → put_text t n y ≡ stopped c
-  stays c y e =
-      ⊎_elim
-      (λ l. absurd (done_stopped _ _ _ (sym (out_done n t l) ∙ e)))
-      (λ l. put_past t n y l ∙ sym (out_stopped n t l) ∙ e)
-      (le_or_lt n (length t))
+  unfolding put_out put_text
+  stays c y e = go n e
+    where
+      go : (m : Placed) → put_out m t ≡ stopped c → put_text t m y ≡ stopped c
+      go (Ok k) q = absurd (let z : ◌≡◌ {A = ℕ} 0 1 = cc in omega arith)
+      go (Err d) q = q
 
   -- what was written is at hand
-  pub went : (u : List ℕ) (k : ℕ) → put_out n t ≡ done u k → (t ≡ u) × (n ≡ k)
-  went u k e = ⊎_elim good (λ l. absurd (done_stopped _ _ _ (sym e ∙ out_stopped n t l))) (le_or_lt n (length t))
+  pub went : (u : List ℕ) (k : ℕ) → put_out n t ≡ done u k → (t ≡ u) × (n ≡ Ok k)
+  unfolding put_out
+  went u k e = go n e
     where
-      good : n ≤ length t → (t ≡ u) × (n ≡ k)
-      good l = let q : done t n ≡ done u k = sym (out_done n t l) ∙ e in (cc, cc)
+      go : (m : Placed) → put_out m t ≡ done u k → (t ≡ u) × (m ≡ Ok k)
+      go (Ok j) q = let p : j ≡ k = cc in (cc, ap Ok p)
+      go (Err d) q = absurd (let z : ◌≡◌ {A = ℕ} 0 1 = cc in omega arith)
 
 bytes_join : (a : List ℕ) (y : Text) → bytes (join (whole a) y) ≡ a ++ bytes y
 unfolding bytes join
 bytes_join a (whole b) = refl
 bytes_join a (cut b c) = refl
+
+-- no text changes nothing, wherever it is put
+pub place_none : (t : List ℕ) (at : ℕ) → place t at [] ≡ t
+place_none t at = sym (paste-zero t at [])
+
+join_none : (y : Text) → join (whole []) y ≡ y
+unfolding join
+join_none (whole b) = refl
+join_none (cut b c) = refl
+
+none_of : (a : List ℕ) → length a ≤ 0 → a ≡ []
+none_of [] h = refl
+none_of (x ∷ a) h = absurd (omega arith)
 
 module _ (t : List ℕ) (at : ℕ) (a : List ℕ) (h : at + length a ≤ length t) where
   written_join : (y : Text) → written (place t at a) (at + length a) y ≡ written t at (join (whole a) y)
@@ -105,136 +118,116 @@ module _ (t : List ℕ) (at : ℕ) (a : List ℕ) (h : at + length a ≤ length 
   written_join (cut b c) = refl
 
   -- a second text, from where the first ended
-  put_on : (y : Text) → put_text (place t at a) (at + length a) y ≡ put_text t at (join (whole a) y)
-  put_on y = ⊎_elim fits over (le_or_lt (at + length a + length (bytes y)) (length t))
+  put_on : (y : Text) → put_text (place t at a) (Ok (at + length a)) y ≡ put_text t (Ok at) (join (whole a) y)
+  put_on y = ⊎_elim fits over (le_or_lt (length (bytes y)) (length t - (at + length a)))
     where
       same : length (bytes (join (whole a) y)) ≡ length a + length (bytes y)
       same = ap length (bytes_join a y) ∙ length-append a (bytes y)
 
-      fits : at + length a + length (bytes y) ≤ length t → put_text (place t at a) (at + length a) y ≡ put_text t at (join (whole a) y)
+      fits : length (bytes y) ≤ length t - (at + length a) → put_text (place t at a) (Ok (at + length a)) y ≡ put_text t (Ok at) (join (whole a) y)
       fits l =
           put_fits (place t at a) (at + length a) y (omega (arith, place_length t at a h))
           ∙ written_join y
           ∙ sym (put_fits t at (join (whole a) y) (omega (arith, same)))
 
-      over : length t < at + length a + length (bytes y) → put_text (place t at a) (at + length a) y ≡ put_text t at (join (whole a) y)
+      over : length t - (at + length a) < length (bytes y) → put_text (place t at a) (Ok (at + length a)) y ≡ put_text t (Ok at) (join (whole a) y)
       over l =
-          put_none (place t at a) (at + length a) y (omega (arith, place_length t at a h)) (omega (arith, place_length t at a h))
-          ∙ sym (put_none t at (join (whole a) y) (omega arith) (omega (arith, same)))
+          put_none (place t at a) (at + length a) y (omega (arith, place_length t at a h))
+          ∙ sym (put_none t at (join (whole a) y) (omega (arith, same)))
+
+put_on_any : (t : List ℕ) (at : ℕ) (a : List ℕ) (y : Text) → length a ≤ length t - at → put_text (place t at a) (Ok (at + length a)) y ≡ put_text t (Ok at) (join (whole a) y)
+put_on_any t at a y h = ⊎_elim (λ l. put_on t at a (omega arith) y) (λ l. past (none_of a (omega arith))) (le_or_lt at (length t))
+  where
+    past : a ≡ [] → put_text (place t at a) (Ok (at + length a)) y ≡ put_text t (Ok at) (join (whole a) y)
+    past e =
+        let z : at + length a ≡ at = omega (arith, ap length e) in
+        ap (λ k. put_text (place t at a) (Ok k) y) z
+        ∙ ap (λ b. put_text (place t at b) (Ok at) y) e
+        ∙ ap (λ u. put_text u (Ok at) y) (place_none t at)
+        ∙ sym (ap (put_text t (Ok at)) (ap (λ b. join (whole b) y) e ∙ join_none y))
+
+-- a text that ends in a refusal is stopped wherever it is put, by that refusal or for want of room
+pub cut_stopped : (t : List ℕ) (at : Placed) (a : List ℕ) (c : ℕ) → (k : ℕ) × (put_text t at (cut a c) ≡ stopped k)
+unfolding bytes put_text
+cut_stopped t (Err d) a c = (refusal_number d, refl)
+cut_stopped t (Ok at) a c =
+    ⊎_elim
+    (λ m. (c, put_fits t at (cut a c) m ∙ cut_is t at a c))
+    (λ m. (17, put_none t at (cut a c) m))
+    (le_or_lt (length a) (length t - at))
+
+past_on : (t : List ℕ) (d : Refusal) (x y : Text) (n : Placed) (t' : List ℕ) → put_out n t' ≡ put_text t (Err d) x → put_text t' n y ≡ put_text t (Err d) (join x y)
+unfolding put_text
+past_on t d x y n t' e = stays t' n (refusal_number d) y e
 
 -- what comes after x, from where x ended, is x and that
-pub join_on : (t : List ℕ) (at : ℕ) (x y : Text) (n : ℕ) (t' : List ℕ) → put_out n t' ≡ put_text t at x → put_text t' n y ≡ put_text t at (join x y)
-unfolding join bytes
-join_on t at (cut a c) y n t' e₁ = ⊎_elim out inside (le_or_lt at (length t))
+pub join_on : (t : List ℕ) (at : Placed) (x y : Text) (n : Placed) (t' : List ℕ) → put_out n t' ≡ put_text t at x → put_text t' n y ≡ put_text t at (join x y)
+unfolding bytes join
+join_on t (Err d) x y n t' e₁ = past_on t d x y n t' e₁
+join_on t (Ok at) (cut a c) y n t' e₁ = let k = cut_stopped t (Ok at) a c in stays t' n k.0 y (e₁ ∙ k.1) ∙ sym k.1
+join_on t (Ok at) (whole a) y n t' e₁ = ⊎_elim fits over (le_or_lt (length a) (length t - at))
   where
-    keep : (k : ℕ) → put_text t at (cut a c) ≡ stopped k → put_text t' n y ≡ put_text t at (cut a c)
-    keep k q = stays t' n k y (e₁ ∙ q) ∙ sym q
+    fits : length a ≤ length t - at → put_text t' n y ≡ put_text t (Ok at) (join (whole a) y)
+    fits m =
+        let w = went t' n (place t at a) (at + length a) (e₁ ∙ put_fits t at (whole a) m ∙ whole_is t at a) in
+        rw (w.0, w.1) (put_on_any t at a y m)
 
-    out : at ≤ length t → put_text t' n y ≡ put_text t at (cut a c)
-    out l = ⊎_elim (λ m. keep c (put_fits t at (cut a c) m ∙ cut_is t at a c)) (λ m. keep 17 (put_none t at (cut a c) l m)) (le_or_lt (at + length a) (length t))
+    over : length t - at < length a → put_text t' n y ≡ put_text t (Ok at) (join (whole a) y)
+    over m =
+        stays t' n 17 y (e₁ ∙ put_none t at (whole a) m)
+        ∙ sym (put_none t at (join (whole a) y) (omega (arith, ap length (bytes_join a y) ∙ length-append a (bytes y))))
 
-    inside : length t < at → put_text t' n y ≡ put_text t at (cut a c)
-    inside l = keep _ (put_past t at (cut a c) l)
-join_on t at (whole a) y n t' e₁ = ⊎_elim in_text past (le_or_lt at (length t))
-  where
-    keep : (k : ℕ) → put_text t at (whole a) ≡ stopped k → put_text t at (join (whole a) y) ≡ stopped k → put_text t' n y ≡ put_text t at (join (whole a) y)
-    keep k q p = stays t' n k y (e₁ ∙ q) ∙ sym p
-
-    past : length t < at → put_text t' n y ≡ put_text t at (join (whole a) y)
-    past l = keep _ (put_past t at (whole a) l) (put_past t at (join (whole a) y) l)
-
-    in_text : at ≤ length t → put_text t' n y ≡ put_text t at (join (whole a) y)
-    in_text l = ⊎_elim fits over (le_or_lt (at + length a) (length t))
-      where
-        fits : at + length a ≤ length t → put_text t' n y ≡ put_text t at (join (whole a) y)
-        fits m =
-            let w = went t' n (place t at a) (at + length a) (e₁ ∙ put_fits t at (whole a) m ∙ whole_is t at a) in
-            rw (w.0, w.1) (put_on t at a m y)
-
-        over : length t < at + length a → put_text t' n y ≡ put_text t at (join (whole a) y)
-        over m = keep 17 (put_none t at (whole a) l m) (put_none t at (join (whole a) y) l (omega (arith, ap length (bytes_join a y) ∙ length-append a (bytes y))))
-
-pub put_join : (t : List ℕ) (at : ℕ) (x y : Text) (n : ℕ) (t' : List ℕ) (r : ℕ) (u : List ℕ) → put_out n t' ≡ put_text t at x → put_out r u ≡ put_text t' n y → put_out r u ≡ put_text t at (join x y)
+pub put_join : (t : List ℕ) (at : Placed) (x y : Text) (n : Placed) (t' : List ℕ) (r : Placed) (u : List ℕ) → put_out n t' ≡ put_text t at x → put_out r u ≡ put_text t' n y → put_out r u ≡ put_text t at (join x y)
 put_join t at x y n t' r u e₁ e₂ = e₂ ∙ join_on t at x y n t' e₁
 
 -- the same, of two texts with no refusal
-pub put_seq : (t : List ℕ) (at : ℕ) (a b : List ℕ) (n : ℕ) (t' : List ℕ) (r : ℕ) (u : List ℕ) → put_out n t' ≡ put_text t at (whole a) → put_out r u ≡ put_text t' n (whole b) → put_out r u ≡ put_text t at (whole (a ++ b))
+pub put_seq : (t : List ℕ) (at : Placed) (a b : List ℕ) (n : Placed) (t' : List ℕ) (r : Placed) (u : List ℕ) → put_out n t' ≡ put_text t at (whole a) → put_out r u ≡ put_text t' n (whole b) → put_out r u ≡ put_text t at (whole (a ++ b))
 unfolding join
 put_seq t at a b n t' r u e₁ e₂ = put_join t at (whole a) (whole b) n t' r u e₁ e₂
 
 -- the same bytes, said in another way
-pub put_same : (t : List ℕ) (at : ℕ) (a b : List ℕ) (r : ℕ) (u : List ℕ) → a ≡ b → put_out r u ≡ put_text t at (whole a) → put_out r u ≡ put_text t at (whole b)
+pub put_same : (t : List ℕ) (at : Placed) (a b : List ℕ) (r : Placed) (u : List ℕ) → a ≡ b → put_out r u ≡ put_text t at (whole a) → put_out r u ≡ put_text t at (whole b)
 put_same t at a b r u e p = rw e at p
 
 -- no text
-pub put_empty : (t : List ℕ) (at : ℕ) → put_out at t ≡ put_text t at (whole [])
-unfolding bytes
-put_empty t at =
-    ⊎_elim
-    (λ l. out_done at t l ∙ none l ∙ sym (put_fits t at (whole []) (size l) ∙ whole_is t at []))
-    (λ l. out_stopped at t l ∙ sym (put_past t at (whole []) l))
-    (le_or_lt at (length t))
-  where
-    size : at ≤ length t → at + length (bytes (whole [])) ≤ length t
-    size l = omega arith
+pub put_empty : (t : List ℕ) (at : Placed) → put_out at t ≡ put_text t at (whole [])
+unfolding put_out bytes
+put_empty t (Err c) = put_past t c (whole [])
+put_empty t (Ok at) = ap₂ done (sym (place_none t at)) (omega arith) ∙ sym (put_fits t at (whole []) (omega arith) ∙ whole_is t at [])
 
-    none : at ≤ length t → done t at ≡ done (place t at []) (at + 0)
-    none l = ap₂ done (paste-zero t at []) (omega arith)
+-- where a first part stopped the writing, `?` hands on what stopped the whole
+pub put_halts : (t : List ℕ) (at : Placed) (a b : List ℕ) (c : Refusal) (r : Placed) (u : List ℕ) → put_out (Err c) u ≡ put_text t at (whole a) → IsErrAnd r (λ e. e ≡ c) → put_out r u ≡ put_text t at (whole (a ++ b))
+put_halts t at a b c r u e i = put_seq t at a b (Err c) u r u e (put_ended u r c (whole b) i)
 
 -- ---- the code's steps
 
--- from a place past the end
-pub put_stays : (t : List ℕ) (at : ℕ) (x : Text) → length t < at → put_out at t ≡ put_text t at x
-put_stays t at x h = out_stopped at t h ∙ sym (put_past t at x h)
+-- no bytes to write
+pub put_no_bytes : (t : List ℕ) (at : ℕ) (s : List ℕ) → length s ≡ 0 → put_out (Ok at) t ≡ put_text t (Ok at) (whole s)
+put_no_bytes t at s e = put_empty t (Ok at) ∙ ap (λ b. put_text t (Ok at) (whole b)) (sym (none_of s (omega arith)))
 
 -- no room
-pub put_full : (t : List ℕ) (at : ℕ) (s : List ℕ) → at ≤ length t → length t < at + length s → put_out (length t + 18) t ≡ put_text t at (whole s)
-unfolding bytes
-put_full t at s l h =
-    let z : length t + 18 - (length t + 1) ≡ 17 = omega arith in
-    out_stopped (length t + 18) t (omega arith) ∙ ap stopped z ∙ sym (put_none t at (whole s) l h)
+pub put_full : (t : List ℕ) (at : ℕ) (s : List ℕ) → length t - at < length s → put_out (Err TextFull) t ≡ put_text t (Ok at) (whole s)
+unfolding put_out bytes
+put_full t at s h = sym (put_none t at (whole s) h)
 
 -- a refusal
-pub put_cut : (t : List ℕ) (at c : ℕ) → at ≤ length t → put_out (length t + 1 + c) t ≡ put_text t at (cut [] c)
-unfolding bytes
-put_cut t at c l =
-    let z : length t + 1 + c - (length t + 1) ≡ c = omega arith in
-    out_stopped (length t + 1 + c) t (omega arith) ∙ ap stopped z ∙ sym (put_fits t at (cut [] c) (omega arith) ∙ cut_is t at [] c)
+pub put_cut : (t : List ℕ) (at : ℕ) (c : Refusal) → put_out (Err c) t ≡ put_text t (Ok at) (cut [] (refusal_number c))
+unfolding put_out bytes
+put_cut t at c = sym (put_fits t at (cut [] (refusal_number c)) (omega arith) ∙ cut_is t at [] (refusal_number c))
 
 -- one byte stored is one byte written
-pub put_set : (t : List ℕ) (at b : ℕ) → at < length t → put_out (at + 1) (set t at b) ≡ put_text t at (whole (b ∷ []))
-unfolding bytes written
+pub put_set : (t : List ℕ) (at b : ℕ) → at < length t → put_out (Ok (at + 1)) (set t at b) ≡ put_text t (Ok at) (whole (b ∷ []))
+unfolding put_out bytes written
 put_set t at b h =
-    out_done (at + 1) (set t at b) (simp length-set (omega arith))
-    ∙ rw (put_fits t at (whole (b ∷ [])) (omega arith), set_split t at b h, add-one)
+    rw (put_fits t at (whole (b ∷ [])) (omega arith), set_split t at b h, add-one)
     (ap (λ (l : List ℕ). done l (suc at)) (sym (append_snoc (take at t) b (drop (suc at) t))))
 
 -- bytes copied over a part of t are those bytes written
-pub put_over : (t : List ℕ) (at : ℕ) (s : List ℕ) (k : ℕ) (u : List ℕ) → at + length s ≤ length t → k ≡ length s → u ≡ s → put_out (at + length s) (put_mid at k t u) ≡ put_text t at (whole s)
-unfolding bytes written
+pub put_over : (t : List ℕ) (at : ℕ) (s : List ℕ) (k : ℕ) (u : List ℕ) → at + length s ≤ length t → k ≡ length s → u ≡ s → put_out (Ok (at + length s)) (put_mid at k t u) ≡ put_text t (Ok at) (whole s)
+unfolding put_out bytes written
 put_over t at s k u h e p =
     let o : put_mid at k t u ≡ paste t at s (length s) = put_mid-paste at k t u s (length s) p (sym e) refl in
-    let l : length (paste t at s (length s)) ≡ length t = ap (λ (v : List ℕ). length (take at t ++ v ++ drop (at + length s) t)) (take-length s) ∙ place_length t at s h in
-    let d : put_out (at + length s) (paste t at s (length s)) ≡ done (paste t at s (length s)) (at + length s) = out_done (at + length s) (paste t at s (length s)) (omega arith) in
-    rw (o, d, put_fits t at (whole s) h) (ap (λ (v : List ℕ). done (take at t ++ v ++ drop (at + length s) t) (at + length s)) (take-length s))
-
--- ---- whether the writing was stopped
-
-pub stopped_is : (t : List ℕ) (at : ℕ) → ltb (length t) at ≡ is_stopped (put_out at t)
-unfolding is_stopped
-stopped_is t at =
-    ⊎_elim
-    (λ l. le-ltb (length t) at l ∙ sym (ap is_stopped (out_done at t l)))
-    (λ l. lt-ltb (length t) at l ∙ sym (ap is_stopped (out_stopped at t l)))
-    (le_or_lt at (length t))
-
--- whoever finds it stopped returns the place
-pub put_stopped : (t : List ℕ) (at : ℕ) (x : Text) → is_stopped (put_out at t) ≡ true → put_out at t ≡ put_text t at x
-put_stopped t at x e = put_stays t at x (ltb-true (length t) at (stopped_is t at ∙ e))
-
--- whoever does not, has a place in the text
-pub not_stopped : (t : List ℕ) (at : ℕ) → is_stopped (put_out at t) ≡ false → at ≤ length t
-not_stopped t at e = ltb-false (length t) at (stopped_is t at ∙ e)
+    rw (o, put_fits t at (whole s) (omega arith)) (ap (λ (v : List ℕ). done (take at t ++ v ++ drop (at + length s) t) (at + length s)) (take-length s))
 
 -- ---- tabs
 
@@ -248,16 +241,9 @@ unfolding pfx
 pfx_one lvl e = rw e refl
 
 -- a text that ends in a refusal is stopped wherever it is put
-pub cut_stops : (t : List ℕ) (at : ℕ) (a : List ℕ) (c : ℕ) → is_stopped (put_text t at (cut a c)) ≡ true
-unfolding is_stopped bytes
-cut_stops t at a c = ⊎_elim inside (λ l. ap is_stopped (put_past t at (cut a c) l)) (le_or_lt at (length t))
-  where
-    inside : at ≤ length t → is_stopped (put_text t at (cut a c)) ≡ true
-    inside l =
-        ⊎_elim
-        (λ m. ap is_stopped (put_fits t at (cut a c) m ∙ cut_is t at a c))
-        (λ m. ap is_stopped (put_none t at (cut a c) l m))
-        (le_or_lt (at + length a) (length t))
+pub cut_stops : (t : List ℕ) (at : Placed) (a : List ℕ) (c : ℕ) → is_stopped (put_text t at (cut a c)) ≡ true
+unfolding is_stopped
+cut_stops t at a c = ap is_stopped (cut_stopped t at a c).1
 
 -- what the steps of writing cite
-pub ruleset steps = (stopped_is, put_stays, put_cut, put_full, put_over)
+pub ruleset steps = (put_no_bytes, put_cut, put_full, put_over)

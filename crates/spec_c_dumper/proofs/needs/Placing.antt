@@ -5,8 +5,13 @@ use mathlib.Core.Bool.{Bool, true, false}
 use mathlib.Core.List.{List}
 use lib.ListN.{length}
 use lib.Dec.{leb}
-use borrow.Author.Tests.{le-leb}
-use Rattle.spec_bytes.specs.text.Text.{Text, whole, cut, bytes, Out, stopped, place, written, put_text}
+use borrow.Author.Tests.{le-leb, lt-leb}
+use mathlib.Core.Logic.{⊎_elim}
+use native.Mathlib.Omega.{arith}
+use Rattle.std.specs.Prelude.{Ok}
+use Rattle.spec_bytes.proofs.words.Laws.{le_or_lt}
+use Rattle.spec_bytes.specs.text.Text.{Text, whole, cut, bytes}
+use Rattle.spec_bytes.specs.text.Placed.{Out, stopped, place, written, put_text}
 use Rattle.spec_c_dumper.specs.rules.Writer.{Said, said}
 use Rattle.spec_c_dumper.specs.rules.Layout.{smaller}
 use Rattle.spec_c_dumper.specs.rules.Place.{Wrote, wrote, refused, with_names, put_said}
@@ -18,24 +23,29 @@ abbrev pub line_out : {U : Type 0} → List ℕ → ℕ → Line (Known U) → W
 line_out t at (says k a) = wrote (place t at a) k.text_len k.names
 line_out t at (cannot e) = refused e
 
+-- room for so many bytes, said by the sum or by what is left
+room_left : (t : List ℕ) (len n : ℕ) → len ≤ length t → leb (len + n) (length t) ≡ leb n (length t - len)
+room_left t len n l =
+    ⊎_elim
+    (λ h. le-leb (len + n) (length t) (omega arith) ∙ sym (le-leb n (length t - len) h))
+    (λ h. lt-leb (len + n) (length t) (omega arith) ∙ sym (lt-leb n (length t - len) h))
+    (le_or_lt n (length t - len))
+
 module _ {U : Type 0} (t : List ℕ) (len : ℕ) where
   fits : (u : U) (x : Text) → line_out t len (fitting len u x) ≡ with_names u (written t len x)
   unfolding fitting written with_names
   fits u (whole a) = refl
   fits u (cut a c) = refl
 
-  pub line_put : (room : ℕ) → length t ≡ smaller room 1073741824 → len ≤ length t → (s : Said U) → line_out t len (line_of room len s) ≡ put_said t len s
+  pub line_put : (room : ℕ) → length t ≡ smaller room 1073741824 → len ≤ length t → (s : Said U) → line_out t len (line_of room len s) ≡ put_said t (Ok len) s
   unfolding line_of put_said put_text with_names
   line_put room e l (said u x) =
       ap (λ (b : ℕ). line_out t len (elim (leb (len + length (bytes x)) b) [ true ↦ fitting len u x | false ↦ cannot 17 ])) (sym e)
-      ∙ go (leb (len + length (bytes x)) (length t))
-      ∙ ap (λ (b : Bool). with_names u (outer b)) (sym (le-leb len (length t) l))
+      ∙ ap (λ (b : Bool). line_out t len (elim b [ true ↦ fitting len u x | false ↦ cannot 17 ])) (room_left t len (length (bytes x)) l)
+      ∙ go (leb (length (bytes x)) (length t - len))
     where
       inner : Bool → Out
       inner b = elim b as (λ (y : Bool). Out) [ true ↦ written t len x | false ↦ stopped 17 ]
-
-      outer : Bool → Out
-      outer b = elim b as (λ (y : Bool). Out) [ false ↦ stopped (len - (length t + 1)) | true ↦ inner (leb (len + length (bytes x)) (length t)) ]
 
       go : (b : Bool) → line_out t len (elim b [ true ↦ fitting len u x | false ↦ cannot 17 ]) ≡ with_names u (inner b)
       go true = fits u x

@@ -12,16 +12,15 @@ use lib.Dec.{eqb}
 use lib.Seq.{length-take-le, take-take, take-append-le, drop_at}
 use borrow.Author.Tests.{lt-ltb, le-ltb, eqb-false}
 use borrow.Rule.Slice.PartMut.{mid_len}
-use Rattle.spec_bytes.specs.text.Text.{place}
+use Rattle.spec_bytes.specs.text.Placed.{place}
 use Rattle.spec_c_dumper.specs.rules.Machine.{Out}
 use Rattle.spec_type_table.specs.declared.types.TypeTable.{TypeTable}
 use Rattle.spec_opening.specs.Causes.{opening_number}
 use Rattle.spec_opening.specs.Table.{types_of}
 use Rattle.spec_opening.specs.Opened.{Outcome, opening_of}
 use Rattle.spec_session.specs.emission.Sheet.{Sheet}
-use Rattle.spec_session.specs.declared.session.Answer.TheVariants.{Refused}
+use Rattle.spec_session.specs.session.Answers.{Refused, number_of, value_of, answer_of}
 use Rattle.spec_session.specs.declared.session.Session.{Session}
-use Rattle.spec_session.specs.session.Answers.{number_of, value_of, answer_of}
 use Rattle.spec_session.specs.calls.Refusals.{number, value}
 use Rattle.spec_session.specs.session.Turns.{Call, is_current, Reach, reached, refused_by, then_zeros, settled, unchanged, table_for, visits_in}
 use Rattle.spec_session.specs.calls.Calls.{opened_call, open_call, limit_of, came_to, lent_to, requested, onward, requested_from, type_call, types_call}

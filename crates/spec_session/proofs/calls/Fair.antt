@@ -1,5 +1,5 @@
 -- What a request leaves: its place in the text is not past the text's end, and what refuses it is 12 to 18. Assumes nothing.
-use Prim.Native.Nat.{ℕ, zero, suc, ◌+◌, ◌≤◌}
+use Prim.Native.Nat.{ℕ, zero, suc, ◌+◌, ◌-◌, ◌≤◌}
 use mathlib.Core.Path.{◌≡◌, ◌∙◌}
 use mathlib.Core.Bool.{Bool, true, false, not, ◌&&◌, ◌||◌}
 use mathlib.Core.List.{List, [], ◌∷◌, ◌++◌}
@@ -8,7 +8,9 @@ use native.Mathlib.Omega.{arith}
 use lib.ListN.{length, take, drop, length-append, length-drop}
 use lib.Dec.{eqb}
 use lib.Seq.{length-take-le}
-use Rattle.spec_bytes.specs.text.Text.{Text, bytes, stopped, put_text, place, written}
+use Rattle.std.specs.Prelude.{Ok}
+use Rattle.spec_bytes.specs.text.Text.{Text, bytes}
+use Rattle.spec_bytes.specs.text.Placed.{stopped, put_text, place, written}
 use Rattle.spec_bytes.proofs.words.Laws.{le_or_lt}
 use Rattle.spec_bytes.proofs.text.TextLaws.{put_fits, put_none}
 use Rattle.spec_c_dumper.specs.rules.Order.{Node, ignored, plain, listed, through, ptr, tdef, proto, comp, Table, is_comp, is_done, Mark, new, busy, done, Store, Res, ok, refused, bind, each, meet, push_if, finish, enter, alias, fresh, visit, order}
@@ -216,27 +218,27 @@ listed_code c (inr (inr (inr e))) = (omega arith, omega arith)
 
 -- a line, where there is a place for it
 module _ (n : ℕ) (t : List ℕ) (at : ℕ) (h : at ≤ length t) (k : ℕ) (long : length t ≡ k) (u : List ℕ) where
-  fair_told : (x : Text) → at + length (bytes x) ≤ length t → Told x → Fair (Inside k) (sheet_of n (with_names u (written t at x)))
+  fair_told : (x : Text) → length (bytes x) ≤ length t - at → Told x → Fair (Inside k) (sheet_of n (with_names u (written t at x)))
   unfolding sheet_of with_names written bytes
-  fair_told _ l (told a) = goes (record { work = u; text = place t at a; at = at + length a; len = n }) (omega (arith, placed t at a l), placed t at a l ∙ long)
+  fair_told _ l (told a) = goes (record { work = u; text = place t at a; at = at + length a; len = n }) (omega (arith, placed t at a (omega arith)), placed t at a (omega arith) ∙ long)
   fair_told _ l (cut_by a c q) = stops c (listed_code c q)
 
   fair_full : Fair (Inside k) (sheet_of n (with_names u (stopped 17)))
   unfolding sheet_of with_names
   fair_full = stops 17 (omega arith, omega arith)
 
-  fair_put : (x : Text) → Told x → Fair (Inside k) (sheet_of n (with_names u (put_text t at x)))
+  fair_put : (x : Text) → Told x → Fair (Inside k) (sheet_of n (with_names u (put_text t (Ok at) x)))
   fair_put x q =
       ⊎_elim
       (λ l. rw (put_fits t at x l) (fair_told x l q))
-      (λ l. rw (put_none t at x h l) fair_full)
-      (le_or_lt (at + length (bytes x)) (length t))
+      (λ l. rw (put_none t at x l) fair_full)
+      (le_or_lt (length (bytes x)) (length t - at))
 
 pub fair_line : (k : ℕ) (v : Writer (List ℕ)) → Tells v → (m : Sheet) → Inside k m → Fair (Inside k) (line_in v m)
 unfolding line_in put_said said_text
 fair_line k v h m g = go (v m.work) (h m.work)
   where
-    go : (q : Said (List ℕ)) → Told (said_text q) → Fair (Inside k) (sheet_of m.len (put_said m.text m.at q))
+    go : (q : Said (List ℕ)) → Told (said_text q) → Fair (Inside k) (sheet_of m.len (put_said m.text (Ok m.at) q))
     go (said u x) q = fair_put m.len m.text m.at g.0 k g.1 u x q
 
 module _ (b : TypeTable) (B : Rules) where

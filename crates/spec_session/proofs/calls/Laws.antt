@@ -1,6 +1,6 @@
 -- A law for each return of the calls but the list's. Assumes nothing.
 use Prim.Native.Nat.{ℕ, zero-le, ◌+◌, ◌-◌, ◌%◌, ◌<◌, ◌≤◌}
-use mathlib.Core.Path.{◌≡◌, refl, ap, ◌∙◌, sym}
+use mathlib.Core.Path.{◌≡◌, refl, ap, ◌∙◌, sym, subst}
 use mathlib.Core.Bool.{Bool, true, false, true≢false}
 use mathlib.Core.List.{List, ◌++◌, append_assoc}
 use mathlib.Core.Logic.{⊎_elim}
@@ -10,32 +10,32 @@ use lib.Dec.{eqb}
 use lib.Seq.{length-take-le, take_at, drop-drop}
 use borrow.Author.Tests.{le-leb, lt-leb}
 use borrow.Rule.Slice.PartMut.{mid_of, post_of, put_mid, mid_len, same_len_mid, put_same}
-use Rattle.spec_bytes.specs.text.Text.{Out as TextOut, place}
+use Rattle.std.specs.Prelude.{Some, None, Result, Ok, Err}
+use Rattle.spec_bytes.specs.Refusals.{refusal_number}
+use Rattle.spec_bytes.specs.declared.refusal.Refusal.{Refusal}
+use Rattle.spec_bytes.specs.text.Placed.{place}
 use Rattle.spec_bytes.proofs.words.Laws.{le_or_lt}
-use Rattle.spec_bytes.proofs.text.TextLaws.{out_done, out_stopped}
 use Rattle.spec_c_dumper.specs.rules.Order.{Node, ignored, plain, listed, through, ptr, tdef, proto, comp, Mark, new, busy, done, Res, fresh, visit, order}
 use Rattle.spec_c_dumper.specs.rules.Machine.{Out, wrote, stuck, obind, eeach}
 use Rattle.spec_c_dumper.specs.rules.Types.{table_of}
-use Rattle.spec_c_dumper.specs.rules.Place.{out_of, with_names}
 use Rattle.spec_type_table.specs.declared.types.TypeTable.{TypeTable}
 use Rattle.spec_type_table.specs.Cells.{get_field}
 use Rattle.spec_type_table.specs.Table.{btf_of, from}
 use Rattle.c_dumper_dependency_order.specs.order_state.Work.{mark_of, work_store, table_in}
-use Rattle.spec_opening.specs.declared.Opening.{Opening}
-use Rattle.spec_opening.specs.declared.Opening.TheVariants.{Refused as Unsound, Sound}
+use Rattle.btf_open_causes.specs.declared.records.Counts.{Counts}
 use Rattle.spec_opening.specs.Causes.{opening_number}
 use Rattle.spec_opening.specs.Table.{types_of, enumerators_of}
 use Rattle.spec_opening.specs.Opened.{refused, opened, open_out, opening_of, work_of}
-use Rattle.spec_session.specs.emission.Sheet.{Sheet, sheet_store, sheet_of, emptied, emit_out, work_machine, is_ignored, is_idle}
+use Rattle.spec_session.specs.emission.Sheet.{Sheet, sheet_store, emptied, emit_out, work_machine, is_ignored, is_idle}
 use Rattle.spec_c_dumper.specs.rules.Request.{listed_out, dumped}
-use Rattle.spec_session.specs.declared.session.Answer.TheVariants.{Accepted}
+use Rattle.spec_session.specs.session.Answers.{Accepted, answer_is, answer_of}
 use Rattle.spec_session.specs.declared.session.Session.{Session}
 use Rattle.spec_session.specs.declared.session.Turn.{Turn}
 use Rattle.spec_session.specs.declared.session.Reached.{Reached}
-use Rattle.spec_session.specs.session.Answers.{answer_of}
-use Rattle.spec_session.specs.session.Turns.{call_of, turn_of, reached, refused_by, reach_of}
+use Rattle.spec_session.specs.session.Turns.{call_of, refused_turn, reached, refused_by, reach_of}
 use Rattle.spec_session.specs.calls.Calls.{opened_call, open_call, limit_of, arrived_at, came_to, lent_to, requested}
-use Rattle.spec_session.proofs.session.Laws.{reach_accepted, reach_refused}
+use Rattle.spec_session.proofs.emission.Laws.{goes as at_place, halts}
+use Rattle.spec_session.proofs.session.Laws.{refused_is, reach_accepted, reach_refused}
 use Rattle.spec_session.proofs.calls.Fair.{Listed, Fair, goes, stops, Inside, fair_request}
 
 -- ---- limit
@@ -61,19 +61,14 @@ module _ (n len : ℕ) where
       (le_or_lt n 1073741824)
 
 -- ---- arrived
-module _ (len v room at : ℕ) where
-  pub arrived_in_lem : at ≤ room → arrived_at len v room at ≡ record { len = len + at; number = 0; visits = v }
+module _ (len v : ℕ) where
+  pub arrived_in_lem : (at : ℕ) → arrived_at len v (Ok at) ≡ record { len = len + at; stop = None; visits = v }
   unfolding arrived_at
-  arrived_in_lem h = rw (le-leb at room h, arrived_at)
+  arrived_in_lem at = refl
 
-  arrived_out : room < at → arrived_at len v room at ≡ record { len = len; number = at - (room + 1); visits = v }
+  pub arrived_past : (c : Refusal) → arrived_at len v (Err c) ≡ record { len = len; stop = Some c; visits = v }
   unfolding arrived_at
-  arrived_out h = rw (lt-leb at room h, arrived_at)
-
-  pub arrived_past : room < at → record { len = len; number = at - room - 1; visits = v } ≡ arrived_at len v room at
-  arrived_past h =
-      let e : at - room - 1 ≡ at - (room + 1) = omega arith in
-      ap {B = Reached} (λ (n : ℕ). record { len = len; number = n; visits = v }) e ∙ sym (arrived_out h)
+  arrived_past c = refl
 
 -- ---- open_core
 module _ (p modes : ℕ) (s w t : List ℕ) where
@@ -85,22 +80,30 @@ module _ (p modes : ℕ) (s w t : List ℕ) where
   unfolding opening_of
   opens_sound e = rw (e, opening_of)
 
-  module _ (o : Opening) (w' t' : List ℕ) (eo : open_out o w' t' ≡ opening_of p modes s w t) where
-    pub open_refused : (c : ℕ) → o ≡ Unsound c → (r : Session) (turn : Turn) → turn ≡ turn_of r (answer_of c 0) → call_of turn.session turn.answer w' t' ≡ open_call r s w t p modes
-    unfolding open_out call_of open_call opened_call turn_of
+  module _ (o : Result Counts Refusal) (w' t' : List ℕ) (eo : open_out o w' t' ≡ opening_of p modes s w t) where
+    pub open_refused : (c : Refusal) → o ≡ Err c → (r : Session) (turn : Turn) → turn ≡ refused_turn r c 0 → call_of turn.session (answer_is turn.answer) w' t' ≡ open_call r s w t p modes
+    unfolding open_out call_of open_call opened_call
     open_refused c e r turn et =
-        (λ i. record { session = (et i).session; answer = (et i).answer; work = w'; text = t' })
-        ∙ ap (opened_call r (length s) (length w) p modes) (sym (ap (λ (q : Opening). open_out q w' t') e) ∙ eo)
+        (λ i. record { session = (et i).session; answer = (ap (λ (z : Turn). answer_is z.answer) et ∙ refused_is c 0) i; work = w'; text = t' })
+        ∙ ap (opened_call r (length s) (length w) p modes) (sym (ap (λ (q : Result Counts Refusal). open_out q w' t') e) ∙ eo)
 
-    pub open_sound : (n m : ℕ) → o ≡ Sound n m → (r : Session)
-        → call_of (record { «open» = true; section_len = length s; work_len = length w; types = n; enumerators = m; text_len = 0; pointer_size = p; modes = modes % 16; visits = 0 }) (Accepted n) w' t' ≡ open_call r s w t p modes
+    pub open_sound : (n : Counts) → o ≡ Ok n → (r : Session)
+        → call_of (record { «open» = true; section_len = length s; work_len = length w; types = n.types; enumerators = n.enumerators; text_len = 0; pointer_size = p; modes = modes % 16; visits = 0 }) (Accepted n.types) w' t' ≡ open_call r s w t p modes
     unfolding open_out call_of open_call opened_call answer_of
-    open_sound n m e r = ap (opened_call r (length s) (length w) p modes) (sym (ap (λ (q : Opening). open_out q w' t') e) ∙ eo)
+    open_sound n e r = ap (opened_call r (length s) (length w) p modes) (sym (ap (λ (q : Result Counts Refusal). open_out q w' t') e) ∙ eo)
 
 -- ---- one request
+abbrev sheet_or : Out Sheet → Sheet → Sheet
+sheet_or (wrote m) d = m
+sheet_or (stuck c) d = d
+
 pub stuck_listed : (k : ℕ) (o : Out Sheet) → Fair (Inside k) o → (c : ℕ) → o ≡ stuck c → Listed c
 stuck_listed k _ (goes m g) c e = let z : ◌≡◌ {A = ℕ} 0 1 = cc in absurd (omega arith)
 stuck_listed k _ (stops d l) c e = let q : d ≡ c = cc in (omega arith, omega arith)
+
+wrote_inside : (k : ℕ) (o : Out Sheet) → Fair (Inside k) o → (m : Sheet) → o ≡ wrote m → Inside k m
+wrote_inside k _ (goes m g) n e = let q : m ≡ n = ap (λ (o : Out Sheet). sheet_or o m) e in subst (Inside k) q g
+wrote_inside k _ (stops d l) n e = let z : ◌≡◌ {A = ℕ} 0 1 = cc in absurd (omega arith)
 
 pub mid_place : (t u : List ℕ) (len k : ℕ) → length u ≡ k → put_mid len k t u ≡ place t len u
 mid_place t u len k e =
@@ -112,79 +115,59 @@ module _ (b : TypeTable) (s w : List ℕ) (id : ℕ) where
   abbrev pub asked : List ℕ → Out Sheet
   asked u = dumped (work_machine b (btf_of b s w)) (table_of (btf_of b s w)) (record { work = w; text = u; at = 0; len = 0 }) id
 
-  begins : (u : List ℕ) → obind (emit_out 0 0 u w) (λ m. dumped (work_machine b (btf_of b s w)) (table_of (btf_of b s w)) m id) ≡ asked u
-  unfolding obind sheet_of out_of with_names
-  begins u = ap (λ (o : TextOut). obind (sheet_of 0 (with_names w o)) (λ m. dumped (work_machine b (btf_of b s w)) (table_of (btf_of b s w)) m id)) (out_done 0 u zero-le)
-
   pub fair_asked : (u : List ℕ) → Fair (Inside (length u)) (asked u)
   fair_asked u = fair_request b (btf_of b s w) (length u) (record { work = w; text = u; at = 0; len = 0 }) id (zero-le, refl)
 
-sheet_in : (at : ℕ) (u w : List ℕ) → at ≤ length u → emit_out 0 at u w ≡ wrote (record { work = w; text = u; at = at; len = 0 })
-unfolding sheet_of out_of with_names
-sheet_in at u w h = ap (λ (o : TextOut). sheet_of 0 (with_names w o)) (out_done at u h)
+-- a place is inside the slice
+pub one_inside : (b : TypeTable) (s w u : List ℕ) (id at : ℕ) (u' w' : List ℕ) → emit_out 0 (Ok at) u' w' ≡ asked b s w id u → at ≤ length u
+one_inside b s w u id at u' w' e =
+    let h = wrote_inside (length u) (asked b s w id u) (fair_asked b s w id u) (record { work = w'; text = u'; at = at; len = 0 }) (sym e ∙ at_place 0 at u' w') in
+    omega (arith, h.0, h.1)
 
-sheet_past : (at : ℕ) (u w : List ℕ) → length u < at → emit_out 0 at u w ≡ stuck (at - (length u + 1))
-unfolding sheet_of out_of with_names
-sheet_past at u w h = ap (λ (o : TextOut). sheet_of 0 (with_names w o)) (out_stopped at u h)
+-- what the code's end of a request says, with the slice back in its text
+module _ (t u w' : List ℕ) (len to : ℕ) (below : len ≤ to) (ends : to ≤ length t) (same : length u ≡ length (mid_of len (to - len) t)) (r : Reached) where
+  abbrev after : List ℕ
+  after = put_mid len (to - len) t u
 
-module _ (b : TypeTable) (s w t : List ℕ) (len id to : ℕ) (below : len ≤ to) (ends : to ≤ length t) (at : ℕ) (u w' : List ℕ) (same : length u ≡ length (mid_of len (to - len) t))
-    (e : emit_out 0 at u w' ≡ obind (emit_out 0 0 (mid_of len (to - len) t) w) (λ m. dumped (work_machine b (btf_of b s w)) (table_of (btf_of b s w)) m id)) where
-  long : length u ≡ to - len
-  long = same ∙ mid_len len to t ends
+  whole_length : length after ≡ length t
+  whole_length = same_len_mid len (to - len) t u same
 
-  came_in : at ≤ to - len → asked b s w id (mid_of len (to - len) t) ≡ wrote (record { work = w'; text = u; at = at; len = 0 })
-  came_in h = sym (begins b s w id (mid_of len (to - len) t)) ∙ sym e ∙ sheet_in at u w' (omega (arith, long))
+  -- which visits it has does not matter
+  module _ (at x : ℕ) (er : r ≡ arrived_at len x (Ok at)) where
+    pub end_accepted : (v : ℕ) → reach_of r w' after ≡ came_to len v t (emit_out 0 (Ok at) u w')
+    unfolding came_to
+    end_accepted v =
+        let q : r ≡ record { len = len + at; stop = None; visits = x } = er ∙ arrived_in_lem len x at in
+        reach_accepted r w' after (ap (λ (y : Reached). y.stop) q)
+        ∙ (λ i. reached (q i).len w' (mid_place t u len (to - len) (same ∙ mid_len len to t ends) i))
+        ∙ ap (came_to len v t) (sym (at_place 0 at u w'))
 
-  came_past : to - len < at → asked b s w id (mid_of len (to - len) t) ≡ stuck (at - (to - len + 1))
-  came_past h =
-      let q : at - (length u + 1) ≡ at - (to - len + 1) = omega (arith, long) in
-      sym (begins b s w id (mid_of len (to - len) t)) ∙ sym e ∙ sheet_past at u w' (omega (arith, long)) ∙ ap stuck q
+    pub accepted_fits : at ≤ to - len → r.len ≤ length after
+    accepted_fits h = omega (arith, ap (λ (y : Reached). y.len) (er ∙ arrived_in_lem len x at), whole_length)
 
-  past_listed : to - len < at → Listed (at - (to - len + 1))
-  past_listed h = stuck_listed (length (mid_of len (to - len) t)) (asked b s w id (mid_of len (to - len) t)) (fair_asked b s w id (mid_of len (to - len) t)) (at - (to - len + 1)) (came_past h)
+  module _ (c : Refusal) (v : ℕ) (er : r ≡ arrived_at len v (Err c)) where
+    stopped_is : r ≡ record { len = len; stop = Some c; visits = v }
+    stopped_is = er ∙ arrived_past len v c
 
-  -- a refusal's place is not far past the end
-  pub one_bound : at ≤ to - len + 19
-  one_bound = ⊎_elim (λ l. omega arith) (λ l. omega (arith, (past_listed l).1)) (le_or_lt at (to - len))
-
-  module _ (el : to ≡ limit_of (length t) len) (r : Reached) (v : ℕ) (er : r ≡ arrived_at len v (to - len) at) where
-    request_is : came_to len v t (asked b s w id (mid_of len (to - len) t)) ≡ requested b s id len v w t
-    unfolding requested
-    request_is = ap (λ (z : ℕ). came_to len v t (asked b s w id (take (z - len) (drop len t)))) el
-
-    kept_prefix : take len (put_mid len (to - len) t u) ≡ take len t
+    kept_prefix : take len after ≡ take len t
     kept_prefix = take_at (take len t) (u ++ post_of len (to - len) t) len (length-take-le len t (omega arith))
 
-    whole_length : length (put_mid len (to - len) t u) ≡ length t
-    whole_length = same_len_mid len (to - len) t u same
-
-    one_in : at ≤ to - len → (reach_of r w' (put_mid len (to - len) t u) ≡ requested b s id len v w t) × (r.len ≤ length (put_mid len (to - len) t u))
+    pub end_refused : reach_of r w' after ≡ came_to len v t (emit_out 0 (Err c) u w')
     unfolding came_to
-    one_in h =
-        let q : r ≡ record { len = len + at; number = 0; visits = v } = er ∙ arrived_in_lem len v (to - len) at h in (
-          reach_accepted r w' (put_mid len (to - len) t u) (ap (λ (x : Reached). x.number) q)
-              ∙ (λ i. reached (q i).len w' (mid_place t u len (to - len) long i))
-              ∙ ap (came_to len v t) (sym (came_in h))
-              ∙ request_is,
-          omega (arith, ap (λ (x : Reached). x.len) q, whole_length),
-        )
+    end_refused =
+        let l : r.len ≡ len = ap (λ (y : Reached). y.len) stopped_is in
+        reach_refused r w' after c (ap (λ (y : Reached). y.stop) stopped_is)
+        ∙ (λ i. refused_by (refusal_number c) (l i) (stopped_is i).visits (take (l i) after))
+        ∙ ap (refused_by (refusal_number c) len v) kept_prefix
+        ∙ ap (came_to len v t) (sym (halts 0 c u w'))
 
-    one_past : to - len < at → (reach_of r w' (put_mid len (to - len) t u) ≡ requested b s id len v w t) × (r.len ≤ length (put_mid len (to - len) t u))
-    unfolding came_to
-    one_past h =
-        let q : r ≡ record { len = len; number = at - (to - len + 1); visits = v } = er ∙ arrived_out len v (to - len) at h in
-        let n : r.number ≡ at - (to - len + 1) = ap (λ (x : Reached). x.number) q in
-        let l : r.len ≡ len = ap (λ (x : Reached). x.len) q in (
-          reach_refused r w' (put_mid len (to - len) t u) (λ z. absurd (omega (arith, (past_listed h).0)))
-              ∙ (λ i. refused_by (n i) (l i) (q i).visits (take (l i) (put_mid len (to - len) t u)))
-              ∙ ap (refused_by (at - (to - len + 1)) len v) kept_prefix
-              ∙ ap (came_to len v t) (sym (came_past h))
-              ∙ request_is,
-          omega (arith, whole_length),
-        )
+    pub refused_fits : r.len ≤ length after
+    refused_fits = omega (arith, ap (λ (y : Reached). y.len) stopped_is, whole_length)
 
-    pub one_reach : (reach_of r w' (put_mid len (to - len) t u) ≡ requested b s id len v w t) × (r.len ≤ length (put_mid len (to - len) t u))
-    one_reach = ⊎_elim one_in one_past (le_or_lt at (to - len))
+-- a request on the slice that it is lent
+pub lent_is : (b : TypeTable) (s w t : List ℕ) (len id to v : ℕ) → to ≡ limit_of (length t) len → came_to len v t (asked b s w id (mid_of len (to - len) t)) ≡ requested b s id len v w t
+unfolding requested
+lent_is b s w t len id to v el = ap (λ (z : ℕ). came_to len v t (asked b s w id (take (z - len) (drop len t)))) el
 
 -- ---- an id with nothing to write
 module _ (b : TypeTable) (s w u : List ℕ) (id : ℕ) where
@@ -216,14 +199,14 @@ module _ (b : TypeTable) (s w u : List ℕ) (id : ℕ) where
   idle_dumped h = idle_visit (mark_of (get_field w id 1)) h
 
 pub idle_reach : (b : TypeTable) (s w t : List ℕ) (len u v id : ℕ) → len ≤ length t → (q : Bool) → q ≡ is_idle (mark_of (get_field w id 1)) ((table_in b s w).node id) → q ≡ true
-    → (reach_of (record { len = len; number = 0; visits = u }) w t ≡ requested b s id len v w t) × (len ≤ length t)
+    → (reach_of (record { len = len; stop = None; visits = u }) w t ≡ requested b s id len v w t) × (len ≤ length t)
 unfolding requested came_to
 idle_reach b s w t len u v id h q e z =
     let lim : (len ≤ limit_of (length t) len) × (limit_of (length t) len ≤ length t) = limit_between (length t) len h in
     let size : length (lent_to len t) ≡ limit_of (length t) len - len = mid_len len (limit_of (length t) len) t lim.1 in
     let back : t ≡ place t len (lent_to len t) = sym (put_same len (limit_of (length t) len - len) t) ∙ mid_place t (lent_to len t) len (limit_of (length t) len - len) size in
     let none : len ≡ len + 0 = omega arith in (
-      reach_accepted (record { len = len; number = 0; visits = u }) w t refl
+      reach_accepted (record { len = len; stop = None; visits = u }) w t refl
           ∙ (λ i. reached (none i) w (back i))
           ∙ ap (came_to len v t) (sym (idle_dumped b s w (lent_to len t) id (sym e ∙ z))),
       h,

@@ -1,32 +1,26 @@
--- A call with a list of ids: a law for each return of its functions in src/turns.rt, and what a reader wants of specs/Lists.antt. It does not
--- matter when what follows the text is zeroed (`Tails`, `Singles`), so once is enough. Assumes nothing.
+-- A call with a list of ids: what a reader wants of specs/Lists.antt. It does not matter when what follows the text is zeroed (`Tails`,
+-- `Singles`), so once is enough. Assumes nothing.
 use Prim.Native.Nat.{ℕ, zero, suc, ◌+◌, ◌-◌, ◌/◌, ◌<◌, ◌≤◌}
 use mathlib.Core.Path.{◌≡◌, refl, ap, ◌∙◌, sym, subst}
-use mathlib.Core.Bool.{Bool, true, false, not, ◌&&◌}
+use mathlib.Core.Bool.{Bool, true, false, ◌&&◌}
 use mathlib.Core.List.{List, [], ◌∷◌, ◌++◌}
 use mathlib.Core.Logic.{⊎_elim}
 use native.Mathlib.Omega.{arith}
 use native.Mathlib.Nat.{le_refl}
 use native.Mathlib.Numerals.{add-one}
-use lib.ListN.{length, take, replicate}
+use lib.ListN.{length, take}
 use lib.Dec.{eqb, leb, ltb}
-use borrow.Author.Tests.{le-leb, lt-leb, eq-eqb, not-true, eqb-true, ltb-true, ltb-false}
+use borrow.Author.Tests.{le-leb, lt-leb, eq-eqb, eqb-true, ltb-true, ltb-false}
 use Rattle.spec_bytes.specs.words.Words.{get_word, table, words}
 use Rattle.spec_bytes.proofs.words.Laws.{le_or_lt}
-use Rattle.spec_type_table.specs.declared.types.TypeTable.{TypeTable}
-use Rattle.spec_session.specs.declared.session.Answer.{Answer}
-use Rattle.spec_session.specs.declared.session.Answer.TheVariants.{Accepted, Refused}
+use Rattle.spec_session.specs.session.Answers.{Refused, number_of, value_of, answer_of}
 use Rattle.spec_session.specs.declared.session.Session.{Session}
-use Rattle.spec_session.specs.declared.session.Turn.{Turn}
-use Rattle.spec_session.specs.declared.session.Reached.{Reached}
-use Rattle.spec_session.specs.declared.session.Tally.{Tally}
-use Rattle.spec_session.specs.session.Answers.{number_of, value_of, answer_of}
-use Rattle.spec_session.specs.session.Turns.{Call, call_of, turn_of, is_current, Reach, reached, refused_by, reach_of, with_text, then_zeros, settled, unchanged, table_for, visits_in}
+use Rattle.spec_session.specs.session.Turns.{Call, call_of, is_current, Reach, reached, refused_by, with_text, then_zeros, settled, unchanged, table_for, visits_in}
 use Rattle.spec_session.specs.calls.Calls.{requested, type_call}
-use Rattle.spec_session.specs.calls.Lists.{ids_in, then_next, list_from, list_call, count_in, tailed, list_end}
+use Rattle.spec_session.specs.calls.Lists.{ids_in, then_next, list_from, count_in, tailed}
 use Rattle.spec_session.proofs.calls.Fair.{Listed}
-use Rattle.spec_session.proofs.session.Laws.{current_fits, reach_accepted, reach_refused, zeros_twice}
-use Rattle.spec_session.proofs.calls.Claims.{number_is, value_is, Sane, on, off, request_sane, zeros_length, zeros_head, Kept, type_settles, type_current, type_not_below, type_not_current, Visited, request_counts, accepted_counts, refused_counts}
+use Rattle.spec_session.proofs.session.Laws.{current_fits}
+use Rattle.spec_session.proofs.calls.Claims.{number_is, value_is, Sane, on, off, zeros_length, zeros_head, Kept, type_settles, type_current, type_not_below, type_not_current, Visited, request_counts, accepted_counts, refused_counts}
 use Rattle.spec_session.proofs.calls.Singles.{Pair, on_both, off_both, request_pair, settled_with_lem, settled_tail, parts_of}
 
 -- ---- the ids
@@ -77,10 +71,6 @@ module _ (b : List ℕ) where
       ids_all ∙ ap (ids_from b 0) z ∙ ids_cons 0 (count_in b) e
 
 -- ---- clear_after
-pub tail_kept : (n len : ℕ) (t : List ℕ) → n ≡ 0 → t ≡ tailed n len t
-unfolding tailed
-tail_kept n len t e = sym (ap (λ (k : ℕ). tailed k len t) e)
-
 pub tail_zeroed : (n len : ℕ) (t t' : List ℕ) → (n ≡ 0 → ⊥) → t' ≡ then_zeros (length t) len t → t' ≡ tailed n len t
 unfolding tailed
 tail_zeroed zero len t t' h e = absurd (h refl)
@@ -102,16 +92,6 @@ module _ (n len : ℕ) (t : List ℕ) (short : len ≤ length t) where
       go : (k : ℕ) → take len t ≡ take len (tailed k len t)
       go zero = refl
       go (suc k) = sym (zeros_head len (length t) t short short len (le_refl len))
-
--- ---- settle_list
-module _ (s : Session) (r : Tally) (w t t' : List ℕ) (a : Answer) (ea : a ≡ answer_of r.number r.accepted) (s' : Session) where
-  pub end_open : r.number ≤ 10 → t' ≡ tailed r.accepted r.len t → s' ≡ with_text s true r.len r.visits → call_of s' a w t' ≡ list_end s r w t
-  unfolding list_end
-  end_open h et es = (λ i. call_of (es i) (ea i) w (et i)) ∙ sym (rw (le-leb r.number 10 h, list_end))
-
-  pub end_closed : 10 < r.number → t' ≡ then_zeros (length t) r.len t → (w' : List ℕ) → w' ≡ replicate (length w) 0 → s' ≡ with_text s false r.len r.visits → call_of s' a w' t' ≡ list_end s r w t
-  unfolding list_end
-  end_closed h et w' ew es = (λ i. call_of (es i) (ea i) (ew i) (et i)) ∙ sym (rw (lt-leb r.number 10 h, list_end))
 
 -- ---- one id after another
 pub sane_listed : (l : ℕ) (p : List ℕ) (n : ℕ) (q : Reach) → Sane l p n q → (c len v : ℕ) (t : List ℕ) → q ≡ refused_by c len v t → Listed c
@@ -145,72 +125,6 @@ module _ (s : Session) (section : List ℕ) where
         ∙ settled_with_lem s len v (length w) (length t) (requested (table_for s section) section id len v w t')
         ∙ pair_settled (length w) (length t) _ _ (request_pair (length w) (length t) len t t' refl lt h same (table_for s section) section id v w refl)
 
-    pub past : s.types ≤ id → type_call (with_text s true len v) section w t' id ≡ unchanged (with_text s true len v) (Refused 10 len) w t'
-    past l = type_not_below (with_text s true len v) section w t' id current l
-
-  -- where the loop stands: k accepted, the text has len bytes; whole: what the call comes to
-  module _ (b : TypeTable) (eb : b ≡ table_for s section) (ids : List ℕ) (n : ℕ) (whole : Call) (es : s.section_len ≡ length section) (k len v : ℕ) (w t : List ℕ) (ew : s.work_len ≡ length w) (h : len ≤ length t)
-      (e : whole ≡ list_from k (with_text s true len v) section w (tailed k len t) (ids_from ids k (n - k))) where
-    pub list_done : n ≤ k → list_end s (record { len = len; number = 0; accepted = k; visits = v }) w t ≡ whole
-    unfolding list_end ids_from list_from
-    list_done l =
-        let z : n - k ≡ 0 = omega arith in
-        sym (e ∙ ap (λ (j : ℕ). list_from k (with_text s true len v) section w (tailed k len t) (ids_from ids k j)) z)
-
-    module _ (l : k < n) (id : ℕ) (ei : id ≡ get_word ids k) where
-      abbrev rest : Call → Call
-      rest c = list_from (suc k) c.session section c.work c.text (ids_from ids (k + 1) (n - (k + 1)))
-
-      next : whole ≡ then_next k (type_call (with_text s true len v) section w (tailed k len t) id) rest
-      unfolding list_from
-      next =
-          e
-          ∙ ap (list_from k (with_text s true len v) section w (tailed k len t)) (ids_cons ids k n l)
-          ∙ ap (λ (j : ℕ). then_next k (type_call (with_text s true len v) section w (tailed k len t) j) rest) (sym ei)
-
-      pub list_past : s.types ≤ id → list_end s (record { len = len; number = 10; accepted = k; visits = v }) w t ≡ whole
-      unfolding list_end number_of
-      list_past p =
-          sym (next
-          ∙ ap (λ (c : Call). then_next k c rest) (past es len v w t (tailed k len t) ew (tail_length k len t h) h (tail_head k len t h) id p)
-          ∙ counted_stops k 10 (unchanged (with_text s true len v) (Refused 10 len) w (tailed k len t)) rest refl (λ z. absurd (omega arith)))
-
-      module _ (p : id < s.types) (r : Reached) (w' t' : List ℕ) (er : reach_of r w' t' ≡ requested b section id len v w t) where
-        came : requested (table_for s section) section id len v w t ≡ reach_of r w' t'
-        came = sym (er ∙ ap (λ (c : TypeTable). requested c section id len v w t) eb)
-
-        onward : whole ≡ then_next k (settled s (length w) (length t) (reach_of r w' t')) rest
-        onward =
-            next
-            ∙ ap (λ (c : Call). then_next k c rest) (called es len v w t (tailed k len t) ew (tail_length k len t h) h (tail_head k len t h) id p ∙ ap (settled s (length w) (length t)) came)
-
-        pub list_more : length t' ≡ length t → r.number ≡ 0 → (u : ℕ) → u ≡ visits_in w' → whole ≡ list_from (k + 1) (with_text s true r.len u) section w' (tailed (k + 1) r.len t') (ids_from ids (k + 1) (n - (k + 1)))
-        unfolding settled tailed
-        list_more lt z u eu =
-            onward
-            ∙ ap (λ (q : Reach). then_next k (settled s (length w) (length t) q) rest) (reach_accepted r w' t' z)
-            ∙ counted_goes k (settled s (length w) (length t) (reached r.len w' t')) rest (number_is 0 r.len)
-            ∙ ap (λ (j : ℕ). list_from (suc k) (with_text s true r.len (visits_in w')) section w' (then_zeros j r.len t') (ids_from ids (k + 1) (n - (k + 1)))) (sym lt)
-            ∙ ap (λ (j : ℕ). list_from j (with_text s true r.len (visits_in w')) section w' (tailed j r.len t') (ids_from ids (k + 1) (n - (k + 1)))) (sym (add-one k))
-            ∙ ap (λ (j : ℕ). list_from (k + 1) (with_text s true r.len j) section w' (tailed (k + 1) r.len t') (ids_from ids (k + 1) (n - (k + 1)))) (sym eu)
-
-        listed : (r.number ≡ 0 → ⊥) → Listed r.number
-        listed z =
-            sane_listed len (take len t) (length t) (requested (table_for s section) section id len v w t)
-            (request_sane len (take len t) (length t) len t (le_refl len) h refl refl (table_for s section) section id v w)
-            r.number r.len r.visits (take r.len t') (came ∙ reach_refused r w' t' z)
-
-        pub list_stop : length w' ≡ length w → length t' ≡ length t → (r.number ≡ 0 → ⊥) → list_end s (record { len = r.len; number = r.number; accepted = k; visits = r.visits }) w' t' ≡ whole
-        unfolding list_end settled
-        list_stop lw lt z =
-            let o : 10 < r.number = omega (arith, (listed z).0) in
-            rw (lt-leb r.number 10 o, list_end)
-            (sym (onward
-            ∙ ap (λ (q : Reach). then_next k (settled s (length w) (length t) q) rest) (reach_refused r w' t' z)
-            ∙ counted_stops k r.number (settled s (length w) (length t) (refused_by r.number r.len r.visits (take r.len t'))) rest (number_is r.number r.len) z
-            ∙ sym (λ i. call_of (with_text s false r.len r.visits) (answer_of r.number k) (replicate (lw i) 0) (then_zeros (lt i) r.len (take r.len t')))
-            ∙ ap (call_of (with_text s false r.len r.visits) (answer_of r.number k) (replicate (length w') 0)) (zeros_twice (length t') r.len t')))
-
   module _ (w t : List ℕ) (h : is_current s (length section) (length w) (length t) ≡ true) where
     parts : (eqb s.section_len (length section) ≡ true) × (eqb s.work_len (length w) ≡ true)
     unfolding is_current
@@ -232,28 +146,6 @@ module _ (s : Session) (section : List ℕ) where
         first_of : (p q : Bool) → p && q ≡ true → p ≡ true
         first_of true q e = refl
         first_of false q e = e
-
-    pub list_start : (ids : List ℕ) (n : ℕ) → n ≡ count_in ids → list_call s section w t (ids_in ids) ≡ list_from 0 (with_text s true s.text_len s.visits) section w (tailed 0 s.text_len t) (ids_from ids 0 (n - 0))
-    unfolding list_call tailed
-    list_start ids n e =
-        let z : count_in ids ≡ n - 0 = omega arith in
-        ap (list_from 0 s section w t) (ids_all ids ∙ ap (ids_from ids 0) z)
-        ∙ ap (λ (o : Bool). list_from 0 (with_text s o s.text_len s.visits) section w t (ids_from ids 0 (n - 0))) open_now
-
--- ---- dump_list_core
-module _ (s : Session) (section w t ids : List ℕ) where
-  pub list_empty : length ids < 4 → call_of s (Accepted 0) w t ≡ list_call s section w t (ids_in ids)
-  unfolding list_call list_from answer_of
-  list_empty h = sym (ap (list_from 0 s section w t) (ids_none ids h))
-
-  module _ (q : Bool) (eq : q ≡ is_current s (length section) (length w) (length t)) where
-    pub list_11 : 4 ≤ length ids → not q ≡ true → (turn : Turn) → turn ≡ turn_of s (answer_of 11 0) → call_of turn.session turn.answer w t ≡ list_call s section w t (ids_in ids)
-    unfolding list_call list_from turn_of number_of
-    list_11 l h turn et =
-        (λ i. call_of (et i).session (et i).answer w t)
-        ∙ sym (ap (list_from 0 s section w t) (ids_some ids l)
-        ∙ ap (λ (c : Call). then_next 0 c (λ d. list_from 1 d.session section d.work d.text (ids_from ids 1 (count_in ids - 1)))) (type_not_current s section w t (get_word ids 0) (sym eq ∙ not-true q h))
-        ∙ counted_stops 0 11 (unchanged s (Refused 11 s.text_len) w t) (λ d. list_from 1 d.session section d.work d.text (ids_from ids 1 (count_in ids - 1))) refl (λ z. absurd (omega arith)))
 
 -- ---- what every single request keeps
 pub record Single (s : Session) (t : List ℕ) (c : Call) : Type 0 where

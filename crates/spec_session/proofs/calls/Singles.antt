@@ -11,8 +11,9 @@ use lib.Dec.{eqb, leb, ltb}
 use lib.Seq.{take-append-le, take-append-add, length-take-le}
 use borrow.Author.Tests.{le-leb, eq-eqb, eqb-true, ltb-false}
 use borrow.Rule.Slice.PartMut.{mid_len}
+use Rattle.std.specs.Prelude.{Ok}
 use Rattle.spec_bytes.specs.words.Words.{get_word}
-use Rattle.spec_bytes.specs.text.Text.{Out as TextOut, done as written_to, stopped, place}
+use Rattle.spec_bytes.specs.text.Placed.{Out as TextOut, done as written_to, stopped, place}
 use Rattle.spec_bytes.proofs.words.Laws.{put_length}
 use Rattle.spec_c_dumper.specs.rules.Machine.{Out}
 use Rattle.spec_c_dumper.specs.rules.Types.{Btf as Rules, table_of}
@@ -90,8 +91,8 @@ sized_line k j v h keeps m g = go (v m.work) refl
     go : (q : Said (List ℕ)) → v m.work ≡ q → Fair (Sized k j) (line_in v m)
     go (said u x) e =
         let same : length u ≡ j = sym (ap (λ (s : Said (List ℕ)). length (said_names s)) e) ∙ keeps m.work ∙ g.2 in
-        subst (λ (s : Said (List ℕ)). Fair (Sized k j) (sheet_of m.len (put_said m.text m.at s))) (sym e)
-        (sized_out k j m.len u same _ (subst (λ (s : Said (List ℕ)). Fair (Inside k) (sheet_of m.len (put_said m.text m.at s))) e (fair_line k v h m (g.0, g.1))))
+        subst (λ (s : Said (List ℕ)). Fair (Sized k j) (sheet_of m.len (put_said m.text (Ok m.at) s))) (sym e)
+        (sized_out k j m.len u same _ (subst (λ (s : Said (List ℕ)). Fair (Inside k) (sheet_of m.len (put_said m.text (Ok m.at) s))) e (fair_line k v h m (g.0, g.1))))
 
 module _ (b : TypeTable) (B : Rules) where
   keeps_def : (x : ℕ) → Keeps (λ (u : List ℕ). length u) (definition_once (work_asks b.types B) (work_naming b) B x (B.type_by_id x))

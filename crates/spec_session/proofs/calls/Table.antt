@@ -1,5 +1,5 @@
 -- The calls and the rules refuse by the rows of specs/Refusals. Assumes nothing.
-use Prim.Native.Nat.{ℕ, zero, suc, ◌+◌, ◌-◌, ◌≤◌}
+use Prim.Native.Nat.{ℕ, zero, suc, ◌+◌, ◌-◌, ◌<◌, ◌≤◌}
 use mathlib.Core.Path.{◌≡◌, refl, ap, ◌∙◌, sym}
 use mathlib.Core.Bool.{Bool, true, false}
 use mathlib.Core.List.{List, [], ◌∷◌, Memᴰ}
@@ -7,7 +7,11 @@ use mathlib.Core.Logic.{◌⊎◌, inl, inr}
 use native.Mathlib.Omega.{arith}
 use lib.ListN.{length}
 use lib.Dec.{eqb}
-use Rattle.spec_bytes.specs.text.Text.{put_text}
+use borrow.Author.Tests.{leb-true, leb-false}
+use Rattle.std.specs.Prelude.{Ok}
+use Rattle.spec_bytes.specs.text.Text.{Text, bytes}
+use Rattle.spec_bytes.specs.text.Placed.{stopped, put_text}
+use Rattle.spec_bytes.proofs.text.TextLaws.{put_none}
 use Rattle.spec_c_dumper.specs.rules.Order.{meet, order}
 use Rattle.spec_c_dumper.specs.rules.Machine.{mention, allowed, emit}
 use Rattle.spec_c_dumper.specs.rules.Writer.{ask_then, checked}
@@ -18,10 +22,8 @@ use Rattle.spec_c_dumper.specs.ceiling.Ceiling.{allows, order_within}
 use Rattle.spec_opening.specs.Causes.{first_of, causes, opening_number}
 use Rattle.spec_opening.specs.Table.{types_of}
 use Rattle.spec_opening.specs.Opened.{Outcome}
-use Rattle.spec_session.specs.declared.session.Answer.{Answer}
-use Rattle.spec_session.specs.declared.session.Answer.TheVariants.{Accepted, Refused}
+use Rattle.spec_session.specs.session.Answers.{Answer, Accepted, Refused, number_of, value_of, answer_of}
 use Rattle.spec_session.specs.declared.session.Session.{Session}
-use Rattle.spec_session.specs.session.Answers.{number_of, value_of, answer_of}
 use Rattle.spec_session.specs.session.Turns.{Call}
 use Rattle.spec_session.specs.calls.Refusals.{RefusalRow, too_deep, cycle, nameless, align_zero, overflow, text_full, misplaced, number, value, refusal}
 use Rattle.spec_session.specs.calls.Calls.{opened_call, open_call}
@@ -95,8 +97,11 @@ calls_by_table = record {
   types = λ s section work text current. in_table s text _ (types_current s section work text current);
 }
 
+full_at : (t : List ℕ) (at : ℕ) (x : Text) → at ≤ length t → length t < at + length (bytes x) → put_text t (Ok at) x ≡ stopped 17
+full_at t at x h g = put_none t at x (omega arith)
+
 pub rules_by_table : RulesByTable
-unfolding order emit meet mention allowed get_size_of get_align_of emit_type_decl emit_type_chain emit_composite_def chain_of off_align checked measured ask_then put_text order_within allows number
+unfolding order emit meet mention allowed get_size_of get_align_of emit_type_decl emit_type_chain emit_composite_def chain_of off_align checked measured ask_then order_within allows number
 rules_by_table = record {
   deep_order = λ St K T s x weak. refl;
   deep_emit = λ M X T s x cont. refl;
@@ -111,7 +116,7 @@ rules_by_table = record {
   no_name = λ M X T rec s x cont. refl;
   align_zero_lem = λ bit_offset rest. refl;
   overflows = λ n h. rw (h, checked) refl;
-  full = λ t at x h g. rw (h, g, put_text) refl;
+  full = λ t at x h g. full_at t at x (leb-true at (length t) h) (leb-false (at + length (bytes x)) (length t) g);
   not_placed = λ B is_struct sz ms a packed x bits p q r t h. rw (measured, p, ask_then, q, ask_then, r, ask_then, t, ask_then, h) refl;
   ceiling = λ St K c n T s x weak k h. rw (order_within, allows, h) refl;
 }

@@ -1,6 +1,6 @@
 -- What stands in the text slice past the place is never read: a request on two slices that agree up to there comes to the same.
 -- So it does not matter when what follows the text is zeroed. Assumes nothing.
-use Prim.Native.Nat.{ℕ, zero, suc, zero-le, ◌+◌, ◌≤◌}
+use Prim.Native.Nat.{ℕ, zero, suc, zero-le, ◌+◌, ◌-◌, ◌≤◌}
 use mathlib.Core.Path.{◌≡◌, refl, ap, ◌∙◌, sym, subst}
 use mathlib.Core.Bool.{Bool, true, false, not, ◌&&◌, ◌||◌}
 use mathlib.Core.List.{List, [], ◌∷◌, ◌++◌}
@@ -9,7 +9,9 @@ use native.Mathlib.Omega.{arith}
 use lib.ListN.{length, take, drop, length-append}
 use lib.Dec.{eqb}
 use lib.Seq.{length-take-le, take_at}
-use Rattle.spec_bytes.specs.text.Text.{Text, whole, cut, bytes, stopped, put_text, place, written}
+use Rattle.std.specs.Prelude.{Ok}
+use Rattle.spec_bytes.specs.text.Text.{Text, whole, cut, bytes}
+use Rattle.spec_bytes.specs.text.Placed.{stopped, put_text, place, written}
 use Rattle.spec_bytes.proofs.words.Laws.{le_or_lt}
 use Rattle.spec_bytes.proofs.text.TextLaws.{put_fits, put_none}
 use Rattle.spec_c_dumper.specs.rules.Order.{Node, ignored, plain, listed, through, ptr, tdef, proto, comp, Table, is_comp, is_done, Mark, new, busy, done, Store, Res, ok, refused, bind, each, meet, push_if, finish, enter, alias, fresh, visit, order}
@@ -228,12 +230,12 @@ placed_head : (t : List ℕ) (at : ℕ) (a : List ℕ) → at ≤ length t → t
 placed_head t at a h = take_at (take at t ++ a) (drop (at + length a) t) (at + length a) (length-append (take at t) a ∙ ap (λ (k : ℕ). k + length a) (length-take-le at t h))
 
 module _ (n : ℕ) (t t' : List ℕ) (at : ℕ) (h : at ≤ length t) (long : length t ≡ length t') (same : take at t ≡ take at t') (u : List ℕ) where
-  both_written : (x : Text) → at + length (bytes x) ≤ length t → Both Like (sheet_of n (with_names u (written t at x))) (sheet_of n (with_names u (written t' at x)))
+  both_written : (x : Text) → length (bytes x) ≤ length t - at → Both Like (sheet_of n (with_names u (written t at x))) (sheet_of n (with_names u (written t' at x)))
   unfolding sheet_of with_names written bytes
   both_written (whole a) l =
       let l' : at + length a ≤ length t' = omega arith in
       goes (record { work = u; text = place t at a; at = at + length a; len = n }) (record { work = u; text = place t' at a; at = at + length a; len = n })
-      (like u (place t at a) (place t' at a) (at + length a) n (omega (arith, placed t at a l)) (placed t at a l ∙ long ∙ sym (placed t' at a l'))
+      (like u (place t at a) (place t' at a) (at + length a) n (omega (arith, placed t at a (omega arith))) (placed t at a (omega arith) ∙ long ∙ sym (placed t' at a l'))
       (placed_head t at a h ∙ ap (λ (p : List ℕ). p ++ a) same ∙ sym (placed_head t' at a (omega arith))))
   both_written (cut a c) l = stops c
 
@@ -241,18 +243,18 @@ module _ (n : ℕ) (t t' : List ℕ) (at : ℕ) (h : at ≤ length t) (long : le
   unfolding sheet_of with_names
   both_full = stops 17
 
-  both_put : (x : Text) → Both Like (sheet_of n (with_names u (put_text t at x))) (sheet_of n (with_names u (put_text t' at x)))
+  both_put : (x : Text) → Both Like (sheet_of n (with_names u (put_text t (Ok at) x))) (sheet_of n (with_names u (put_text t' (Ok at) x)))
   both_put x =
       ⊎_elim
       (λ l. rw (put_fits t at x l, put_fits t' at x (omega arith)) (both_written x l))
-      (λ l. rw (put_none t at x h l, put_none t' at x (omega arith) (omega arith)) both_full)
-      (le_or_lt (at + length (bytes x)) (length t))
+      (λ l. rw (put_none t at x l, put_none t' at x (omega arith)) both_full)
+      (le_or_lt (length (bytes x)) (length t - at))
 
 both_line : (v : Writer (List ℕ)) (m m' : Sheet) → Like m m' → Both Like (line_in v m) (line_in v m')
 unfolding line_in put_said
 both_line v _ _ (like w t t' at len h long same) = go (v w)
   where
-    go : (q : Said (List ℕ)) → Both Like (sheet_of len (put_said t at q)) (sheet_of len (put_said t' at q))
+    go : (q : Said (List ℕ)) → Both Like (sheet_of len (put_said t (Ok at) q)) (sheet_of len (put_said t' (Ok at) q))
     go (said u x) = both_put len t t' at h long same u x
 
 module _ (b : TypeTable) (B : Rules) where

@@ -9,7 +9,9 @@ use native.Mathlib.Omega.{arith}
 use lib.Dec.{eqb, ltb}
 use lib.ListN.{length, take, drop, length-append, length-drop}
 use lib.Seq.{length-take-le}
-use Rattle.spec_bytes.specs.text.Text.{Text, whole, cut, bytes, Out as TextOut, place, written, put_text}
+use Rattle.std.specs.Prelude.{Ok}
+use Rattle.spec_bytes.specs.text.Text.{Text, whole, cut, bytes}
+use Rattle.spec_bytes.specs.text.Placed.{Out as TextOut, place, written, put_text}
 use Rattle.spec_bytes.specs.words.Words.{get_word, put_word}
 use Rattle.spec_bytes.proofs.words.Laws.{le_or_lt, get_put_same, get_put_other, put_length}
 use Rattle.spec_bytes.proofs.text.TextLaws.{put_fits, put_none}
@@ -144,25 +146,25 @@ place_length t at a h =
     length-append (take at t ++ a) (drop (at + length a) t) ∙ omega (arith, e, length-drop (at + length a) t)
 
 module _ (m : Sheet) (inside : m.at ≤ length m.text) (u : List ℕ) (long : length u ≡ length m.work) (one : words 1 u ≡ words 1 m.work) (state : words 13 u ≡ words 13 m.work) where
-  put_line : (x : Text) → Told x → Line m (sheet_of m.len (with_names u (put_text m.text m.at x)))
+  put_line : (x : Text) → Told x → Line m (sheet_of m.len (with_names u (put_text m.text (Ok m.at) x)))
   unfolding sheet_of with_names written bytes
   put_line _ (told a) =
       ⊎_elim
-      (λ l. subst (λ (o : TextOut). Line m (sheet_of m.len (with_names u o))) (sym (put_fits m.text m.at (whole a) l)) (lined long one state (omega (arith, place_length m.text m.at a l))))
-      (λ l. subst (λ (o : TextOut). Line m (sheet_of m.len (with_names u o))) (sym (put_none m.text m.at (whole a) inside l)) (unlined 17_fine))
-      (le_or_lt (m.at + length a) (length m.text))
+      (λ l. subst (λ (o : TextOut). Line m (sheet_of m.len (with_names u o))) (sym (put_fits m.text m.at (whole a) l)) (lined long one state (omega (arith, place_length m.text m.at a (omega arith)))))
+      (λ l. subst (λ (o : TextOut). Line m (sheet_of m.len (with_names u o))) (sym (put_none m.text m.at (whole a) l)) (unlined 17_fine))
+      (le_or_lt (length a) (length m.text - m.at))
   put_line _ (cut_by a c q) =
       ⊎_elim
       (λ l. subst (λ (o : TextOut). Line m (sheet_of m.len (with_names u o))) (sym (put_fits m.text m.at (cut a c) l)) (unlined (code_fine c q)))
-      (λ l. subst (λ (o : TextOut). Line m (sheet_of m.len (with_names u o))) (sym (put_none m.text m.at (cut a c) inside l)) (unlined 17_fine))
-      (le_or_lt (m.at + length a) (length m.text))
+      (λ l. subst (λ (o : TextOut). Line m (sheet_of m.len (with_names u o))) (sym (put_none m.text m.at (cut a c) l)) (unlined 17_fine))
+      (le_or_lt (length a) (length m.text - m.at))
 
 line_holds : (v : Writer (List ℕ)) → Keeps length v → Keeps (words 1) v → Keeps (words 13) v → Tells v → (m : Sheet) → m.at ≤ length m.text → Line m (line_in v m)
 unfolding line_in put_said said_names said_text
 line_holds v long one state tells m inside = go (v m.work) (long m.work) (one m.work) (state m.work) (tells m.work)
   where
     go : (s : Said (List ℕ)) → length (said_names s) ≡ length m.work → words 1 (said_names s) ≡ words 1 m.work → words 13 (said_names s) ≡ words 13 m.work → Told (said_text s)
-        → Line m (sheet_of m.len (put_said m.text m.at s))
+        → Line m (sheet_of m.len (put_said m.text (Ok m.at) s))
     go (said u x) a b c h = put_line m inside u a b c x h
 
 module _ (b : TypeTable) (B : Rules) (m : Sheet) (inside : m.at ≤ length m.text) (x : ℕ) where

@@ -1,5 +1,5 @@
 -- A law for each return. Assumes nothing.
-use Prim.Native.Nat.{ℕ, zero, suc, ◌-◌, ◌%◌, ◌<◌, ◌≤◌}
+use Prim.Native.Nat.{ℕ, zero, suc, ◌-◌, ◌<◌, ◌≤◌}
 use mathlib.Core.Path.{◌≡◌, refl, ap, ◌∙◌, sym}
 use mathlib.Core.Bool.{Bool, true, false, not, ◌&&◌, true≢false}
 use mathlib.Core.List.{List, [], ◌∷◌, ◌++◌, append-nil}
@@ -8,54 +8,28 @@ use native.Mathlib.Nat.{le_refl}
 use lib.ListN.{length, take, drop, replicate, length-drop, drop_of_length-le}
 use lib.Seq.{take_all}
 use lib.Dec.{eqb, leb}
-use borrow.Author.Tests.{eq-eqb, ne_eqb, not-true, not-false, leb-true}
+use borrow.Author.Tests.{not-false, leb-true}
 use borrow.Rule.Slice.PartMut.{mid_of, post_of, put_mid, mid_len}
-use Rattle.spec_bytes.specs.words.Words.{get_word}
-use Rattle.spec_session.specs.declared.session.Answer.{Answer}
-use Rattle.spec_session.specs.declared.session.Answer.TheVariants.{Accepted, Refused}
+use Rattle.std.specs.Prelude.{Some, None}
+use Rattle.spec_bytes.specs.declared.refusal.Refusal.{Refusal}
+use Rattle.spec_bytes.specs.Refusals.{refusal_number}
+use Rattle.spec_opening.proofs.Opens.{some_number}
+use Rattle.spec_session.specs.session.Answers.{Accepted, Refused, answer_of}
 use Rattle.spec_session.specs.declared.session.Session.{Session}
-use Rattle.spec_session.specs.declared.session.Turn.{Turn}
 use Rattle.spec_session.specs.declared.session.Reached.{Reached}
-use Rattle.spec_session.specs.session.Answers.{answer_of}
-use Rattle.spec_session.specs.session.Turns.{call_of, turn_of, is_current, reached, refused_by, reach_of, with_text, then_zeros, settled, visits_in}
+use Rattle.spec_session.specs.session.Turns.{call_of, is_current, reached, refused_by, reach_of, with_text, then_zeros, settled, visits_in}
 
--- ---- answer_of, turn_of
-pub answer_refused : (n v : ℕ) → 0 < n → Refused n v ≡ answer_of n v
+-- ---- answers
+-- what a refusal's answer says
+pub refused_is : (c : Refusal) (v : ℕ) → Refused (refusal_number c) v ≡ answer_of (refusal_number c) v
 unfolding answer_of
-answer_refused zero v h = absurd (omega arith)
-answer_refused (suc n) v h = refl
-
-pub answer_accepted : (n v : ℕ) → n ≡ 0 → Accepted v ≡ answer_of n v
-unfolding answer_of
-answer_accepted n v e = sym (ap (λ (k : ℕ). answer_of k v) e)
-
-pub answer_other : (n v : ℕ) → (n ≡ 0 → ⊥) → Refused n v ≡ answer_of n v
-answer_other n v h = answer_refused n v (omega arith)
-
-pub turn_is : (s : Session) (a b : Answer) → a ≡ b → record { session = s; answer = a } ≡ turn_of s b
-unfolding turn_of
-turn_is s a b e = λ i. record { session = s; answer = e i }
+refused_is c v = go (refusal_number c) (some_number c)
+  where
+    go : (n : ℕ) → (n ≡ 0 → ⊥) → Refused n v ≡ answer_of n v
+    go zero h = absurd (h refl)
+    go (suc n) h = refl
 
 -- ---- is_current
-module _ (s : Session) (a b n : ℕ) where
-  pub current_closed : not s.«open» ≡ true → false ≡ is_current s a b n
-  unfolding is_current
-  current_closed h = sym (λ i. not-true s.«open» h i && (eqb s.section_len a && (eqb s.work_len b && leb s.text_len n)))
-
-  module _ (h : not s.«open» ≡ false) where
-    pub current_section : (s.section_len ≡ a → ⊥) → false ≡ is_current s a b n
-    unfolding is_current
-    current_section d = sym (λ i. not-false s.«open» h i && (ne_eqb s.section_len a d i && (eqb s.work_len b && leb s.text_len n)))
-
-    module _ (e : s.section_len ≡ a) where
-      pub current_work : (s.work_len ≡ b → ⊥) → false ≡ is_current s a b n
-      unfolding is_current
-      current_work d = sym (λ i. not-false s.«open» h i && (eq-eqb s.section_len a e i && (ne_eqb s.work_len b d i && leb s.text_len n)))
-
-      pub current_text : s.work_len ≡ b → leb s.text_len n ≡ is_current s a b n
-      unfolding is_current
-      current_text f = sym (λ i. not-false s.«open» h i && (eq-eqb s.section_len a e i && (eq-eqb s.work_len b f i && leb s.text_len n)))
-
 last_of : (p q r t : Bool) → p && (q && (r && t)) ≡ true → t ≡ true
 last_of true true true t h = h
 last_of true true false t h = absurd (true≢false (sym h))
@@ -83,10 +57,6 @@ none_follow t n h =
     sym ((λ i. take_all n t h i ++ replicate (k i) 0) ∙ append-nil t)
 
 -- ---- visits_in
-pub visits_is : (w : List ℕ) (v : ℕ) → v < 4294967296 → v ≡ get_word w 2 → v ≡ visits_in w
-unfolding visits_in
-visits_is w v l e = let m : v ≡ v % 4294967296 = omega arith in m ∙ ap (λ (k : ℕ). k % 4294967296) e
-
 -- a word of 32 bits
 pub visits_fit : (w : List ℕ) → visits_in w < 4294967296
 unfolding visits_in
@@ -94,13 +64,13 @@ visits_fit w = omega arith
 
 -- ---- settle
 module _ (r : Reached) (w t : List ℕ) where
-  pub reach_accepted : r.number ≡ 0 → reach_of r w t ≡ reached r.len w t
+  pub reach_accepted : r.stop ≡ None → reach_of r w t ≡ reached r.len w t
   unfolding reach_of
-  reach_accepted h = rw (eq-eqb r.number 0 h, reach_of)
+  reach_accepted h = rw (h, reach_of)
 
-  pub reach_refused : (r.number ≡ 0 → ⊥) → reach_of r w t ≡ refused_by r.number r.len r.visits (take r.len t)
+  pub reach_refused : (c : Refusal) → r.stop ≡ Some c → reach_of r w t ≡ refused_by (refusal_number c) r.len r.visits (take r.len t)
   unfolding reach_of
-  reach_refused h = rw (ne_eqb r.number 0 h, reach_of)
+  reach_refused c h = rw (h, reach_of)
 
 -- the first bytes of the first bytes
 pub zeros_twice : (n len : ℕ) (t : List ℕ) → then_zeros n len (take len t) ≡ then_zeros n len t
@@ -113,16 +83,15 @@ zeros_twice n len t = ap (λ (l : List ℕ). l ++ replicate (n - len) 0) (again 
     again (suc k) (x ∷ l) = ap (λ (m : List ℕ). x ∷ m) (again k l)
 
 module _ (s : Session) (r : Reached) (w t t' : List ℕ) (et : t' ≡ then_zeros (length t) r.len t) (s' : Session) where
-  pub settle_accepted : r.number ≡ 0 → (v : ℕ) → v ≡ visits_in w → s' ≡ with_text s true r.len v → call_of s' (Accepted r.len) w t' ≡ settled s (length w) (length t) (reach_of r w t)
+  pub settle_accepted : r.stop ≡ None → (v : ℕ) → v ≡ visits_in w → s' ≡ with_text s true r.len v → call_of s' (Accepted r.len) w t' ≡ settled s (length w) (length t) (reach_of r w t)
   unfolding call_of settled answer_of
   settle_accepted z v ev es =
       (λ i. record { session = (es ∙ ap (with_text s true r.len) ev) i; answer = Accepted r.len; work = w; text = et i })
       ∙ ap (settled s (length w) (length t)) (sym (reach_accepted r w t z))
 
-  pub settle_refused : (r.number ≡ 0 → ⊥) → (w' : List ℕ) → w' ≡ replicate (length w) 0 → s' ≡ with_text s false r.len r.visits → (turn : Turn) → turn ≡ turn_of s' (answer_of r.number r.len)
-      → call_of turn.session turn.answer w' t' ≡ settled s (length w) (length t) (reach_of r w t)
-  unfolding call_of settled turn_of
-  settle_refused z w' ew es turn e =
-      (λ i. record { session = (e i).session; answer = (e i).answer; work = ew i; text = (et ∙ sym (zeros_twice (length t) r.len t)) i })
-      ∙ (λ i. record { session = es i; answer = answer_of r.number r.len; work = replicate (length w) 0; text = then_zeros (length t) r.len (take r.len t) })
-      ∙ ap (settled s (length w) (length t)) (sym (reach_refused r w t z))
+  pub settle_refused : (c : Refusal) → r.stop ≡ Some c → (w' : List ℕ) → w' ≡ replicate (length w) 0 → s' ≡ with_text s false r.len r.visits
+      → call_of s' (Refused (refusal_number c) r.len) w' t' ≡ settled s (length w) (length t) (reach_of r w t)
+  unfolding call_of settled
+  settle_refused c z w' ew es =
+      (λ i. record { session = es i; answer = refused_is c r.len i; work = ew i; text = (et ∙ sym (zeros_twice (length t) r.len t)) i })
+      ∙ ap (settled s (length w) (length t)) (sym (reach_refused r w t c z))

@@ -1,6 +1,6 @@
 -- What each call of a session comes to, for all inputs: document 01, "Session (made by opening, read by requests)".
-use Rattle.std.specs.Prelude.{ℕ, zero, suc, ◌+◌, ◌-◌, ◌%◌, true, false, List, length, take, drop, leb, ltb}
-use Rattle.spec_bytes.specs.text.Text.{place}
+use Rattle.std.specs.Prelude.{ℕ, zero, suc, ◌+◌, ◌-◌, ◌%◌, true, false, List, length, take, drop, leb, ltb, Some, None, Ok, Err}
+use Rattle.spec_bytes.specs.text.Placed.{Placed, place}
 use Rattle.spec_c_dumper.specs.rules.Machine.{Out, wrote, stuck}
 use Rattle.spec_c_dumper.specs.rules.Types.{table_of}
 use Rattle.spec_type_table.specs.declared.types.TypeTable.{TypeTable}
@@ -47,12 +47,10 @@ open_call s section work text pointer modes =
 unfoldable pub limit_of : ℕ → ℕ → ℕ
 limit_of n len = elim (leb n 1073741824) [ true ↦ n | false ↦ elim (leb len 1073741824) [ true ↦ 1073741824 | false ↦ len ] ]
 
--- what a place in a slice of so many bytes says, after a text of len bytes and v visits
-unfoldable pub arrived_at : ℕ → ℕ → ℕ → ℕ → Reached
-arrived_at len v room at = elim (leb at room) [
-  | true ↦ record { len = len + at; number = 0; visits = v }
-  | false ↦ record { len = len; number = at - (room + 1); visits = v }
-]
+-- what the end of a request in a lent slice says, after a text of len bytes and v visits
+unfoldable pub arrived_at : ℕ → ℕ → Placed → Reached
+arrived_at len v (Ok at) = record { len = len + at; stop = None; visits = v }
+arrived_at len v (Err c) = record { len = len; stop = Some c; visits = v }
 
 -- what a dump in the slice after the first len bytes of t leaves there, where v visits were counted before it
 unfoldable pub came_to : ℕ → ℕ → List ℕ → Out Sheet → Reach

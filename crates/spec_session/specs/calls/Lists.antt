@@ -3,7 +3,7 @@ use Rattle.std.specs.Prelude.{ℕ, zero, suc, ◌/◌, true, false, List, [], �
 use Rattle.spec_bytes.specs.words.Words.{words}
 use Rattle.spec_session.specs.declared.session.Session.{Session}
 use Rattle.spec_session.specs.declared.session.Tally.{Tally}
-use Rattle.spec_session.specs.session.Answers.{number_of, answer_of}
+use Rattle.spec_session.specs.session.Answers.{number_of, answer_of, stop_number, stays_open}
 use Rattle.spec_session.specs.session.Turns.{Call, call_of, with_text, then_zeros}
 use Rattle.spec_session.specs.calls.Calls.{type_call}
 
@@ -41,8 +41,8 @@ tailed (suc n) len t = then_zeros (length t) len t
 -- the end of the call: 10 does not close the session, what comes after it does
 unfoldable pub list_end : Session → Tally → List ℕ → List ℕ → Call
 list_end s r w t =
-    elim (leb r.number 10) [
-      | true ↦ call_of (with_text s true r.len r.visits) (answer_of r.number r.accepted) w (tailed r.accepted r.len t)
-      | false ↦ call_of (with_text s false r.len r.visits) (answer_of r.number r.accepted) (replicate (length w) 0)
+    elim (stays_open r.stop) [
+      | true ↦ call_of (with_text s true r.len r.visits) (answer_of (stop_number r.stop) r.accepted) w (tailed r.accepted r.len t)
+      | false ↦ call_of (with_text s false r.len r.visits) (answer_of (stop_number r.stop) r.accepted) (replicate (length w) 0)
           (then_zeros (length t) r.len t)
     ]

@@ -1,8 +1,7 @@
 -- Document 01's table of refusals: the number and the value of each row. specs/Table.antt says that the calls and the rules refuse by
 -- these.
 use Rattle.std.specs.Prelude.{ℕ}
-use Rattle.spec_session.specs.declared.session.Answer.{Answer}
-use Rattle.spec_session.specs.session.Answers.{answer_of}
+use Rattle.spec_session.specs.session.Answers.{Answer, answer_of}
 
 -- the rows of the table
 pub data RefusalRow : Type 0 where

@@ -1,8 +1,9 @@
 -- Document 01's table of refusals is what the calls and the rules refuse by: statements only. proofs/Table.antt has the proofs; they assume
 -- nothing.
-use Rattle.std.specs.Prelude.{ℕ, zero, suc, ◌+◌, ◌*◌, ◌<◌, ◌≡◌, Bool, true, false, ◌&&◌, ◌⊎◌, length, ltb, leb}
+use Rattle.std.specs.Prelude.{ℕ, zero, suc, ◌+◌, ◌*◌, ◌<◌, ◌≡◌, Bool, true, false, ◌&&◌, ◌⊎◌, length, ltb, leb, Ok}
 use mathlib.Core.List.{List, [], ◌∷◌, Memᴰ}
-use Rattle.spec_bytes.specs.text.Text.{Text, bytes, stopped, put_text}
+use Rattle.spec_bytes.specs.text.Text.{Text, bytes}
+use Rattle.spec_bytes.specs.text.Placed.{stopped, put_text}
 use Rattle.spec_c_dumper.specs.rules.Order.{Table, Store, refused, meet, order}
 use Rattle.spec_c_dumper.specs.rules.Machine.{Machine, Out, stuck, mention, allowed, emit}
 use Rattle.spec_c_dumper.specs.rules.Writer.{Ask, got, no, checked, stop}
@@ -14,9 +15,8 @@ use Rattle.spec_c_dumper.specs.rules.Decl.{Entry, chain_of, emit_type_decl, emit
 use Rattle.spec_c_dumper.specs.ceiling.Ceiling.{halted, most, order_within}
 use Rattle.spec_opening.specs.Causes.{causes}
 use Rattle.spec_opening.specs.Table.{types_of}
-use Rattle.spec_session.specs.declared.session.Answer.{Answer}
+use Rattle.spec_session.specs.session.Answers.{Answer, number_of, answer_of}
 use Rattle.spec_session.specs.declared.session.Session.{Session}
-use Rattle.spec_session.specs.session.Answers.{number_of, answer_of}
 use Rattle.spec_session.specs.session.Turns.{Call, is_current}
 use Rattle.spec_session.specs.calls.Refusals.{RefusalRow, pointer_size, section_over, bad_header, bad_strings, bad_record, bad_reference}
 use Rattle.spec_session.specs.calls.Refusals.{prototype, loop, work_short, too_deep, cycle, nameless, align_zero, overflow, text_full}
@@ -80,7 +80,7 @@ pub record RulesByTable : Type 1 where
   pub overflows : (n : ℕ) → ltb n 4294967296 ≡ false → checked n ≡ no (number overflow)
   -- 17: a text that does not fit behind a place inside the slice
   pub full : (t : List ℕ) (at : ℕ) (x : Text) → leb at (length t) ≡ true → leb (at + length (bytes x)) (length t) ≡ false
-      → put_text t at x ≡ stopped (number text_full)
+      → put_text t (Ok at) x ≡ stopped (number text_full)
   -- 18: placing mode, after all that is asked for was got
   pub not_placed : (B : Btf) (is_struct : Bool) (sz : ℕ) (ms : List Member) (a : ℕ) (packed : Bool) (x : Extent) (bits : ℕ)
       → union_align B is_struct ms ≡ got a

@@ -1,5 +1,6 @@
 -- Emission in the lent slices: the machine of the rules over the work, the text and the place in it.
-use Rattle.std.specs.Prelude.{ℕ, zero, suc, Bool, true, false, not, List, [], eqb}
+use Rattle.std.specs.Prelude.{ℕ, zero, suc, Bool, true, false, not, List, [], eqb, Ok}
+use Rattle.spec_bytes.specs.text.Placed.{Placed}
 use Rattle.spec_c_dumper.specs.rules.Order.{Node, ignored, plain, listed, through, ptr, tdef, proto, comp, Mark, new, busy, done, Store}
 use Rattle.spec_c_dumper.specs.rules.Machine.{Out, wrote, stuck, Machine, emit}
 use Rattle.spec_c_dumper.specs.rules.Types.{Btf as Rules, table_of}
@@ -48,12 +49,12 @@ sheet_of n (written t at w) = wrote (record { work = w; text = t; at = at; len =
 sheet_of n (cut_off c) = stuck c
 
 -- what the code's place says, with the text and the work at that moment
-abbrev pub emit_out : ℕ → ℕ → List ℕ → List ℕ → Out Sheet
+abbrev pub emit_out : ℕ → Placed → List ℕ → List ℕ → Out Sheet
 emit_out n at t w = sheet_of n (out_of at t w)
 
 -- a writer's text, put at the sheet's place
 unfoldable pub line_in : Writer (List ℕ) → Sheet → Out Sheet
-line_in v m = sheet_of m.len (put_said m.text m.at (v m.work))
+line_in v m = sheet_of m.len (put_said m.text (Ok m.at) (v m.work))
 
 module _ (b : TypeTable) (B : Rules) where
   -- Lines by the remembering way: alignments are remembered in the work. Emission's marks stand in words 13, the flags of forward lines in

@@ -1,14 +1,15 @@
 -- What every call of a session shares: what it comes to, cause 11, and how it ends. Document 01, "Session (made by opening, read by
 -- requests)".
-use Rattle.std.specs.Prelude.{ℕ, ◌-◌, ◌%◌, Bool, true, false, ◌&&◌, List, ◌++◌, take, replicate, eqb, leb}
+use Rattle.std.specs.Prelude.{ℕ, ◌-◌, ◌%◌, Bool, true, false, ◌&&◌, List, ◌++◌, take, replicate, eqb, leb, Some, None, Err}
+use Rattle.spec_bytes.specs.declared.refusal.Refusal.{Refusal}
+use Rattle.spec_bytes.specs.Refusals.{refusal_number}
 use Rattle.spec_bytes.specs.words.Words.{get_word}
 use Rattle.spec_type_table.specs.declared.types.TypeTable.{TypeTable}
 use Rattle.btf_open_causes.specs.header.Header.{btf_of as settings_of}
-use Rattle.spec_session.specs.declared.session.Answer.{Answer}
+use Rattle.spec_session.specs.session.Answers.{Answer, answer_of}
 use Rattle.spec_session.specs.declared.session.Session.{Session}
 use Rattle.spec_session.specs.declared.session.Turn.{Turn}
 use Rattle.spec_session.specs.declared.session.Reached.{Reached}
-use Rattle.spec_session.specs.session.Answers.{answer_of}
 
 -- what a call comes to: the session record after it, the answer, and work and text slices after it
 pub record Call : Type 0 where
@@ -20,9 +21,9 @@ pub record Call : Type 0 where
 unfoldable pub call_of : Session → Answer → List ℕ → List ℕ → Call
 call_of s a w t = record { session = s; answer = a; work = w; text = t }
 
--- the code's struct of a session and an answer
-unfoldable pub turn_of : Session → Answer → Turn
-turn_of s a = record { session = s; answer = a }
+-- the code's struct of a session and a refusal with its value
+abbrev pub refused_turn : Session → Refusal → ℕ → Turn
+refused_turn s c value = record { session = s; answer = Err (record { refusal = c; value = value }) }
 
 -- ---- cause 11, and the table that a request reads
 
@@ -51,7 +52,7 @@ pub data Reach : Type 0 where
 -- what the code's Reached says, with the slices at that moment
 unfoldable pub reach_of : Reached → List ℕ → List ℕ → Reach
 reach_of r w t =
-    elim (eqb r.number 0) [ true ↦ reached r.len w t | false ↦ refused_by r.number r.len r.visits (take r.len t) ]
+    elim r.stop [ None ↦ reached r.len w t | Some c ↦ refused_by (refusal_number c) r.len r.visits (take r.len t) ]
 
 -- ---- the end of a call
 

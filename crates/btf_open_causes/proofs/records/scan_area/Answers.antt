@@ -1,4 +1,4 @@
-use Rattle.std.proofs.Common.{arith, rules, refl, ap, ◌∙◌}
+use Rattle.std.proofs.Common.{arith, rules, refl, ap, ◌∙◌, set}
 use Rattle.btf_open_causes.specs.records.Pass.{scan_out}
 use Rattle.btf_open_causes.proofs.records.Pass.{passing_none, passing_more, next_rises, scan_many, scan_bad, scan_end, out_unsound, out_found, enums_few}
 use Rattle.btf_open_causes.proofs.records.scan_area.Goals as goal
@@ -11,7 +11,7 @@ returns-then-x-gt-MOST_RECORDS c = out_unsound _ ∙ scan_many _ _ _ _ _ _ _ _ _
 
 pub returns-in_err-next : goal.returns-in_err-next
 returns-in_err-next c =
-    ap (λ o. scan_out o c.put_start.new.start) c.from_residual.ensures ∙ out_unsound _
+    ap (λ o. scan_out o c.store.new.l) c.from_residual.ensures ∙ out_unsound _
     ∙ scan_bad _ _ _ _ _ _ _ _ _ c.loop-at.invariant.0 c.loop-at-test.true c.if-x-gt-MOST_RECORDS.false c.in_err-next.ensures
 
 pub overflow_add-enumerators : goal.overflow_add-enumerators
@@ -21,7 +21,7 @@ pub loop-at-smaller : goal.loop-at-smaller
 loop-at-smaller c = let q = next_rises _ _ _ _ _ c.in_ok-next.ensures in omega arith
 
 pub loop-at-preserved : goal.loop-at-preserved
-loop-at-preserved c = (passing_more _ _ _ _ _ _ _ _ _ c.loop-at.invariant.0 c.loop-at-test.true c.if-x-gt-MOST_RECORDS.false _ c.in_ok-next.ensures c.requires.1 _ _ c.word-info.ensures c.kind_of.ensures _ c.put_start.ensures _ c.enumerators_of-enumerators.ensures, search rules)
+loop-at-preserved c = (passing_more _ _ _ _ _ _ _ _ _ c.loop-at.invariant.0 c.loop-at-test.true c.if-x-gt-MOST_RECORDS.false _ c.in_ok-next.ensures c.requires.1 _ _ c.word-info.ensures c.kind_of.ensures _ (c.store.ensures ∙ ap (set _ _) c.entry_of.ensures) _ c.enumerators_of-enumerators.ensures, search rules)
 
 pub returns : goal.returns
 returns c = out_found _ _ _ ∙ scan_end _ _ _ _ _ _ _ _ _ c.loop-at.invariant.0 c.loop-at-test.false

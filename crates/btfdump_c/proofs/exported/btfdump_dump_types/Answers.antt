@@ -6,4 +6,4 @@ pub returns-then-record-lt-RECORD_BYTES : goal.returns-then-record-lt-RECORD_BYT
 returns-then-record-lt-RECORD_BYTES c = laws.types_short _ _ _ _ c.if-record-lt-RECORD_BYTES.true
 
 pub returns : goal.returns
-returns c = laws.types_is _ _ _ _ c.if-record-lt-RECORD_BYTES.false _ c.decode-s.ensures _ _ _ _ _ (cases.call_types _ _ _ _ _ _ _ _ _ c.request_types-d.ensures) c.answered.ensures
+returns c = laws.types_is _ _ _ _ c.if-record-lt-RECORD_BYTES.false _ c.decode-s.ensures _ _ _ _ _ (cases.call_types _ _ _ _ _ _ _ _ _ c.request-d.ensures) c.answered.ensures

@@ -5,4 +5,4 @@ pub returns-then-record-lt-RECORD_BYTES : goal.returns-then-record-lt-RECORD_BYT
 returns-then-record-lt-RECORD_BYTES c = laws.field_short _ _ _ _ _ _ c.if-record-lt-RECORD_BYTES.true
 
 pub returns : goal.returns
-returns c = laws.field_is _ _ _ _ _ _ c.if-record-lt-RECORD_BYTES.false _ _ _ _ c.decode.ensures c.which_field-a.ensures c.number_and_value.ensures
+returns c = laws.field_is _ _ _ _ _ _ c.if-record-lt-RECORD_BYTES.false _ _ _ _ c.decode.ensures c.which_field-a.ensures c.number_or_value.ensures

@@ -1,4 +1,5 @@
 use Rattle.c_dumper_dependency_order.specs.order_state.Work.{mark_is}
+use Rattle.c_dumper_dependency_order.proofs.begin.Laws as begin
 use Rattle.c_dumper_dependency_order.proofs.order_type.Laws as laws
 use mathlib.Core.Path.{refl, ap, ◌∙◌, sym}
 use native.Mathlib.Omega.{arith}
@@ -11,10 +12,10 @@ pub order_composite-returns : goal.order_composite-returns
 order_composite-returns t c = laws.composite_entered _ _ _ _ _ _ _ _ _ _ _ _ _ _ _ _ _ _ (sym c.is_passed.ensures ∙ c.if-is_passed.false) c.set_mark.ensures c.inside-u.ensures (rw laws.members_are at c.order_entries-r.ensures) c.finish.ensures
 
 pub order_new-returns-then-is_known : goal.order_new-returns-then-is_known
-order_new-returns-then-is_known t c = laws.new_through _ _ _ _ _ _ _ _ _ _ _ c.type_by_id-t.ensures _ c.node_of.ensures _ _ _ c.in-Through.is (laws.order_known _ _ _ _ _ _ _ _ _ _ _ c.is_known.ensures c.if-is_known.true _ c.count_call.ensures _ c.strong-then-is_known.ensures)
+order_new-returns-then-is_known t c = laws.new_through _ _ _ _ _ _ _ _ _ _ _ c.type_by_id-t.ensures _ c.node_of.ensures _ _ _ c.in-Through.is (laws.order_known _ _ _ _ _ _ _ _ _ _ c.is_known.ensures c.if-is_known.true _ c.count_call.ensures _ c.strong-then-is_known.ensures)
 
 pub order_new-returns-then-is_known-2 : goal.order_new-returns-then-is_known-2
-order_new-returns-then-is_known-2 t c = laws.new_ptr_known _ _ _ _ _ _ _ _ _ _ _ _ c.type_by_id-t.ensures _ c.node_of.ensures _ _ c.in-Ptr.is _ c.is_known-in-Ptr.ensures c.if-is_known-2.true _ c.count_call-then-is_known-2.ensures c.finish-then-is_known-2.ensures
+order_new-returns-then-is_known-2 t c = laws.new_ptr_known _ _ _ _ _ _ _ _ _ _ _ c.type_by_id-t.ensures _ c.node_of.ensures _ _ c.in-Ptr.is _ c.is_known-in-Ptr.ensures c.if-is_known-2.true _ c.count_call-then-is_known-2.ensures c.finish-then-is_known-2.ensures
 
 pub order_new-returns-in-Ignored : goal.order_new-returns-in-Ignored
 order_new-returns-in-Ignored t c = laws.new_ignored _ _ _ _ _ _ _ _ _ _ _ c.type_by_id-t.ensures _ c.node_of.ensures _ c.in-Ignored.is _ refl c.strong.ensures
@@ -40,20 +41,20 @@ order_new-returns-in-Proto t c = laws.new_proto _ _ _ _ _ _ _ _ _ _ _ c.type_by_
 pub order_new-returns-in-Composite : goal.order_new-returns-in-Composite
 order_new-returns-in-Composite t c = laws.new_composite _ _ _ _ _ _ _ _ _ _ _ c.type_by_id-t.ensures _ c.node_of.ensures _ _ c.in-Composite.is _ c.is_named-named-in-Composite.ensures c.order_composite.ensures
 
-pub order_type-returns-then-o-ne0 : goal.order_type-returns-then-o-ne0
-order_type-returns-then-o-ne0 t c = laws.stopped _ _ _ _ c.if-o-ne0.true
+pub order_type-returns-then-is_some : goal.order_type-returns-then-is_some
+order_type-returns-then-is_some t c = laws.stopped _ _ _ _ (sym c.is_some.ensures ∙ c.if-is_some.true)
 
 pub order_type-returns-then-left-eq0 : goal.order_type-returns-then-left-eq0
-order_type-returns-then-left-eq0 t c = laws.too_deep _ _ _ _ _ c.if-o-ne0.false _ _ _ _ _ c.if-left-eq0.true c.refused.ensures
+order_type-returns-then-left-eq0 t c = laws.too_deep _ _ _ _ _ (begin.goes_on _ (sym c.is_some.ensures ∙ c.if-is_some.false)) _ _ _ _ _ c.if-left-eq0.true c.refused.ensures
 
-pub order_type-returns-then-p-ne0 : goal.order_type-returns-then-p-ne0
-order_type-returns-then-p-ne0 t c = laws.none_left _ _ _ _ _ c.if-o-ne0.false _ _ _ _ c.if-left-eq0.false _ c.count_call-p.ensures c.if-p-ne0.true
+pub order_type-returns-then-is_some-2 : goal.order_type-returns-then-is_some-2
+order_type-returns-then-is_some-2 t c = laws.none_left _ _ _ _ _ (begin.goes_on _ (sym c.is_some.ensures ∙ c.if-is_some.false)) _ _ _ _ c.if-left-eq0.false _ c.count_call-p.ensures (sym c.is_some-2.ensures ∙ c.if-is_some-2.true)
 
 pub order_entries-loop-k-init : goal.order_entries-loop-k-init
 order_entries-loop-k-init t c = laws.rest_start _ _ _ _ _ _ _ _ _ _ _
 
 pub order_entries-loop-k-preserved-then-is_known : goal.order_entries-loop-k-preserved-then-is_known
-order_entries-loop-k-preserved-then-is_known t c = laws.rest_known _ _ _ _ _ _ _ _ _ _ _ _ _ _ _ _ c.loop-k.invariant (omega arith) _ c.entry_type-t.ensures _ c.is_known.ensures c.if-is_known.true _ c.count_call.ensures _ c.strong-r.ensures
+order_entries-loop-k-preserved-then-is_known t c = laws.rest_known _ _ _ _ _ _ _ _ _ _ _ _ _ _ _ c.loop-k.invariant (omega arith) _ c.entry_type-t.ensures _ c.is_known.ensures c.if-is_known.true _ c.count_call.ensures _ c.strong-r.ensures
 
 pub order_entries-loop-k-preserved : goal.order_entries-loop-k-preserved
 order_entries-loop-k-preserved t c = laws.rest_turn _ _ _ _ _ _ _ _ _ _ _ _ _ _ _ c.loop-k.invariant (omega arith) _ c.entry_type-t.ensures _ _ _ c.order_type-p.ensures _ c.strong-r-in-loop-k.ensures
@@ -62,10 +63,10 @@ pub order_entries-returns : goal.order_entries-returns
 order_entries-returns t c = laws.entries_end _ _ _ _ _ _ _ _ _ _ _ _ _ _ _ c.loop-k.invariant (omega arith)
 
 pub order_type-returns-in-Done : goal.order_type-returns-in-Done
-order_type-returns-in-Done t c = laws.order_done _ _ _ _ _ c.if-o-ne0.false _ _ _ _ c.if-left-eq0.false _ c.count_call-p.ensures c.if-p-ne0.false _ refl _ (sym c.get_mark.ensures ∙ ap mark_is c.in-Done.is) c.strong.ensures
+order_type-returns-in-Done t c = laws.order_done _ _ _ _ _ (begin.goes_on _ (sym c.is_some.ensures ∙ c.if-is_some.false)) _ _ _ _ c.if-left-eq0.false _ c.count_call-p.ensures (begin.goes_on _ (sym c.is_some-2.ensures ∙ c.if-is_some-2.false)) _ refl _ (sym c.get_mark.ensures ∙ ap mark_is c.in-Done.is) c.strong.ensures
 
 pub order_type-returns-in-Open : goal.order_type-returns-in-Open
-order_type-returns-in-Open t c = laws.order_busy _ _ _ _ _ c.if-o-ne0.false _ _ _ _ c.if-left-eq0.false _ c.count_call-p.ensures c.if-p-ne0.false _ refl _ (sym c.get_mark.ensures ∙ ap mark_is c.in-Open.is) c.meet.ensures
+order_type-returns-in-Open t c = laws.order_busy _ _ _ _ _ (begin.goes_on _ (sym c.is_some.ensures ∙ c.if-is_some.false)) _ _ _ _ c.if-left-eq0.false _ c.count_call-p.ensures (begin.goes_on _ (sym c.is_some-2.ensures ∙ c.if-is_some-2.false)) _ refl _ (sym c.get_mark.ensures ∙ ap mark_is c.in-Open.is) c.meet.ensures
 
 pub order_type-returns-in-New : goal.order_type-returns-in-New
-order_type-returns-in-New t c = laws.order_fresh _ _ _ _ _ c.if-o-ne0.false _ _ _ _ c.if-left-eq0.false _ c.count_call-p.ensures c.if-p-ne0.false _ refl _ (sym c.get_mark.ensures ∙ ap mark_is c.in-New.is) c.order_new.ensures
+order_type-returns-in-New t c = laws.order_fresh _ _ _ _ _ (begin.goes_on _ (sym c.is_some.ensures ∙ c.if-is_some.false)) _ _ _ _ c.if-left-eq0.false _ c.count_call-p.ensures (begin.goes_on _ (sym c.is_some-2.ensures ∙ c.if-is_some-2.false)) _ refl _ (sym c.get_mark.ensures ∙ ap mark_is c.in-New.is) c.order_new.ensures

@@ -1,5 +1,5 @@
 use Rattle.c_dumper_dependency_order.proofs.order_type.Laws as laws
-use Rattle.c_dumper_dependency_order.specs.begin.Start.{limit_by}
+use Rattle.c_dumper_dependency_order.specs.begin.Start.{limit_of}
 use Rattle.c_dumper_dependency_order.specs.entries.Entries.{entry_type}
 use Prim.Native.Nat.{◌+◌, ◌*◌}
 use Rattle.c_dumper_dependency_order.proofs.order_type.+order_type.Given as goal
@@ -17,4 +17,4 @@ abbrev pub decreases-order_new : goal.decreases-order_new
 decreases-order_new l = 4 * l.left + 3
 
 abbrev pub invariant-order_entries-loop-k : goal.invariant-order_entries-loop-k
-invariant-order_entries-loop-k l = laws.Rest (limit_by l.is_set l.calls) l.b.head l.b.section.now l.initial.work l.initial.leads l.left l.has_ptr l.v (entry_type l.b.head l.b.section.now l.each l.entries) l.initial.r l.entries.vlen l.r l.work l.leads l.k
+invariant-order_entries-loop-k l = laws.Rest (limit_of l.ceiling) l.b.head l.b.section.now l.initial.work l.initial.leads l.left l.has_ptr l.v (entry_type l.b.head l.b.section.now l.each l.entries) l.initial.r l.entries.vlen l.r l.work l.leads l.k

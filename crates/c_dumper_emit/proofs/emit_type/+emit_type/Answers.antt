@@ -1,4 +1,4 @@
-use mathlib.Core.Path.{refl, sym, ◌∙◌}
+use mathlib.Core.Path.{refl, ◌∙◌}
 use Rattle.c_dumper_emit.proofs.entries.Laws as laws
 use Rattle.c_dumper_emit.proofs.entries.Walk as walk
 use Rattle.c_dumper_emit.proofs.emit_type.Listed as listed
@@ -9,26 +9,32 @@ use Rattle.c_dumper_emit.proofs.emit_type.+emit_type.Goals as goal
 pub emit_composite-returns-then-named-cont : goal.emit_composite-returns-then-named-cont
 emit_composite-returns-then-named-cont t c = λ n. new.composite_mention _ _ _ _ n _ _ _ _ _ _ _ _ c.requires _ c.is_named-named.ensures _ c.if-named-cont.true _ (c.mention_composite.ensures n)
 
-pub emit_composite-emit_entries-a-requires : goal.emit_composite-emit_entries-a-requires
-emit_composite-emit_entries-a-requires t c = (new.to_composite_entries c.args.left t c.decreases, tt)
+pub emit_composite-emit_entries-requires : goal.emit_composite-emit_entries-requires
+emit_composite-emit_entries-requires t c = (new.to_composite_entries c.args.left t c.decreases, tt)
 
 pub emit_composite-returns : goal.emit_composite-returns
-emit_composite-returns t c = λ n. new.composite_entries _ _ _ _ _ _ _ _ _ _ _ _ c.entries_of-ms.ensures (new.composite_ends _ _ _ _ n _ _ _ _ _ _ _ _ c.requires _ c.is_named-named.ensures _ c.if-named-cont.false _ c.set_emit_state.ensures _ c.inner-within.ensures _ _ _ _ (c.emit_entries-a.ensures n) _ (laws.same_lent _ _ _ c.emit_entries-a.auto.list) _ (c.end_composite.ensures n))
+emit_composite-returns t c = λ n. new.composite_entries _ _ _ _ _ _ _ _ _ _ _ _ c.entries_of-ms.ensures (new.composite_ends _ _ _ _ n _ _ _ _ _ _ _ _ c.requires _ c.is_named-named.ensures _ c.if-named-cont.false _ c.set_emit_state.ensures _ c.inner-within.ensures _ _ _ _ (c.in_ok-a.ensures n) _ (laws.same_lent _ _ _ c.emit_entries.auto.list) _ (c.end_composite.ensures n))
+
+pub emit_composite-returns-in_err-a : goal.emit_composite-returns-in_err-a
+emit_composite-returns-in_err-a t c = λ n. new.composite_entries _ _ _ _ _ _ _ _ _ _ _ _ c.entries_of-ms.ensures (new.composite_ends _ _ _ _ n _ _ _ _ _ _ _ _ c.requires _ c.is_named-named.ensures _ c.if-named-cont.false _ c.set_emit_state.ensures _ c.inner-within.ensures _ _ _ _ (c.in_err-a.ensures n) _ (laws.same_lent _ _ _ c.emit_entries.auto.list) _ (laws.ended n _ _ _ _ _ _ c.from_residual.ensures.1))
 
 pub emit_entries-loop-k-init : goal.emit_entries-loop-k-init
 emit_entries-loop-k-init t c = (refl, λ n. walk.rest_start _ _ _ _ _ _ _ _ n _ _ _ _)
 
 pub emit_entries-loop-k-preserved-then-is_done : goal.emit_entries-loop-k-preserved-then-is_done
-emit_entries-loop-k-preserved-then-is_done t c = (c.loop-k.invariant.0, λ n. walk.rest_skip _ _ _ _ _ _ _ _ n _ _ _ _ _ _ _ _ _ (c.loop-k.invariant.1 n) _ (λ _. c.held_id-t.ensures) _ c.is_done.ensures c.if-is_done.true (omega arith))
+emit_entries-loop-k-preserved-then-is_done t c = (c.loop-k.invariant.0, λ n. walk.rest_skip _ _ _ _ _ _ _ _ n _ _ _ _ _ _ _ _ _ (c.loop-k.invariant.1 n) _ c.held_id-t.ensures _ c.is_done.ensures c.if-is_done.true (omega arith))
 
-pub emit_entries-emit_type-a-requires : goal.emit_entries-emit_type-a-requires
-emit_entries-emit_type-a-requires t c = (new.to_loop_type c.args.left t c.decreases, tt)
+pub emit_entries-emit_type-requires : goal.emit_entries-emit_type-requires
+emit_entries-emit_type-requires t c = (new.to_loop_type c.args.left t c.decreases, tt)
 
 pub emit_entries-loop-k-preserved : goal.emit_entries-loop-k-preserved
-emit_entries-loop-k-preserved t c = (c.emit_type-a.auto.list ∙ c.loop-k.invariant.0, λ n. walk.rest_turn _ _ _ _ _ _ _ _ n _ _ _ _ _ _ _ _ _ (c.loop-k.invariant.1 n) _ (λ _. c.held_id-t.ensures) _ (laws.same_lent _ _ _ c.loop-k.invariant.0) _ _ _ _ (c.emit_type-a.ensures n) (omega arith))
+emit_entries-loop-k-preserved t c = (c.emit_type.auto.list ∙ c.loop-k.invariant.0, λ n. walk.rest_turn _ _ _ _ _ _ _ _ n _ _ _ _ _ _ _ _ _ (c.loop-k.invariant.1 n) _ c.held_id-t.ensures _ (laws.same_lent _ _ _ c.loop-k.invariant.0) _ _ _ _ (c.in_ok-a.ensures n) (omega arith))
 
 pub emit_entries-returns : goal.emit_entries-returns
 emit_entries-returns t c = λ n. listed.entries_end _ _ _ _ _ _ _ _ _ n _ _ _ _ _ _ _ _ (c.loop-k.invariant.1 n) (omega arith)
+
+pub emit_entries-returns-in_err-a : goal.emit_entries-returns-in_err-a
+emit_entries-returns-in_err-a t c = λ n. listed.entries_halt _ _ _ _ _ _ _ _ _ n _ _ _ _ _ _ _ _ (walk.rest_turn _ _ _ _ _ _ _ _ n _ _ _ _ _ _ _ _ _ (c.loop-k.invariant.1 n) _ c.held_id-t.ensures _ (laws.same_lent _ _ _ c.loop-k.invariant.0) _ _ _ _ (c.in_err-a.ensures n) (omega arith)) _ c.from_residual.ensures.1
 
 pub emit_new-emit_leaf-requires : goal.emit_new-emit_leaf-requires
 emit_new-emit_leaf-requires t c = c.requires
@@ -36,11 +42,11 @@ emit_new-emit_leaf-requires t c = c.requires
 pub emit_new-emit_type-requires : goal.emit_new-emit_type-requires
 emit_new-emit_type-requires t c = (new.to_new_type c.args.left t c.decreases, tt)
 
-pub emit_new-emit_type-a-requires : goal.emit_new-emit_type-a-requires
-emit_new-emit_type-a-requires t c = (new.to_new_type c.args.left t c.decreases, tt)
+pub emit_new-emit_type-requires-in-Proto : goal.emit_new-emit_type-requires-in-Proto
+emit_new-emit_type-requires-in-Proto t c = (new.to_new_type c.args.left t c.decreases, tt)
 
-pub emit_new-emit_type-a-requires-in-Proto : goal.emit_new-emit_type-a-requires-in-Proto
-emit_new-emit_type-a-requires-in-Proto t c = (new.to_new_type c.args.left t c.decreases, tt)
+pub emit_new-emit_type-requires-in-Through : goal.emit_new-emit_type-requires-in-Through
+emit_new-emit_type-requires-in-Through t c = (new.to_new_type c.args.left t c.decreases, tt)
 
 pub emit_new-emit_entries-requires : goal.emit_new-emit_entries-requires
 emit_new-emit_entries-requires t c = (new.to_new_entries c.args.left t c.decreases, tt)
@@ -55,22 +61,25 @@ pub emit_new-returns-in-Listed : goal.emit_new-returns-in-Listed
 emit_new-returns-in-Listed t c = λ n. new.new_listed _ _ _ _ n _ _ _ _ _ _ _ _ c.requires _ c.node_of.ensures _ _ c.in-Listed.is (c.emit_leaf.ensures n)
 
 pub emit_new-returns-in-Through : goal.emit_new-returns-in-Through
-emit_new-returns-in-Through t c = λ n. new.new_on _ _ _ _ n _ _ _ _ _ _ _ _ c.requires _ c.node_of.ensures _ _ c.in-Through.is (c.emit_type.ensures n)
+emit_new-returns-in-Through t c = λ n. new.new_on _ _ _ _ n _ _ _ _ _ _ _ _ c.requires _ c.node_of.ensures _ _ c.in-Through.is (c.emit_type-in-Through.ensures n)
 
-pub emit_new-returns-in-Typedef : goal.emit_new-returns-in-Typedef
-emit_new-returns-in-Typedef t c = λ n. new.new_typedef _ _ _ _ n _ _ _ _ _ _ _ _ c.requires _ c.node_of.ensures _ _ c.in-Typedef.is _ c.set_emit_state.ensures _ _ _ _ (c.emit_type-a.ensures n) _ (laws.same_lent _ _ _ c.emit_type-a.auto.list) (c.end_typedef.ensures n)
+pub emit_new-returns-in_ok-a-in-Typedef : goal.emit_new-returns-in_ok-a-in-Typedef
+emit_new-returns-in_ok-a-in-Typedef t c = λ n. new.new_typedef _ _ _ _ n _ _ _ _ _ _ _ _ c.requires _ c.node_of.ensures _ _ c.in-Typedef.is _ c.set_emit_state.ensures _ _ _ _ (c.in_ok-a-in-Typedef.ensures n) _ (laws.same_lent _ _ _ c.emit_type.auto.list) (c.end_typedef.ensures n)
 
-pub emit_new-returns-in-Proto : goal.emit_new-returns-in-Proto
-emit_new-returns-in-Proto t c = λ n. new.new_proto _ _ _ _ n _ _ _ _ _ _ _ _ c.requires _ c.node_of.ensures _ _ _ c.in-Proto.is _ _ _ _ _ (laws.same_lent _ _ _ c.emit_type-a-in-Proto.auto.list) (c.emit_type-a-in-Proto.ensures n) (c.emit_entries.ensures n)
+pub emit_new-returns-in_err-a-in-Typedef : goal.emit_new-returns-in_err-a-in-Typedef
+emit_new-returns-in_err-a-in-Typedef t c = λ n. new.new_typedef _ _ _ _ n _ _ _ _ _ _ _ _ c.requires _ c.node_of.ensures _ _ c.in-Typedef.is _ c.set_emit_state.ensures _ _ _ _ (c.in_err-a-in-Typedef.ensures n) _ (laws.same_lent _ _ _ c.emit_type.auto.list) (laws.ended n _ _ _ _ _ _ c.from_residual.ensures.1)
+
+pub emit_new-returns-in_ok-a-in-Proto : goal.emit_new-returns-in_ok-a-in-Proto
+emit_new-returns-in_ok-a-in-Proto t c = λ n. new.new_proto _ _ _ _ n _ _ _ _ _ _ _ _ c.requires _ c.node_of.ensures _ _ _ c.in-Proto.is _ _ _ _ _ (laws.same_lent _ _ _ c.emit_type-in-Proto.auto.list) (c.in_ok-a-in-Proto.ensures n) (c.emit_entries.ensures n)
+
+pub emit_new-returns-in_err-a-in-Proto : goal.emit_new-returns-in_err-a-in-Proto
+emit_new-returns-in_err-a-in-Proto t c = λ n. new.new_proto _ _ _ _ n _ _ _ _ _ _ _ _ c.requires _ c.node_of.ensures _ _ _ c.in-Proto.is _ _ _ _ _ (laws.same_lent _ _ _ c.emit_type-in-Proto.auto.list) (c.in_err-a-in-Proto.ensures n) (laws.ended n _ _ _ _ _ _ c.from_residual-in_err-a-in-Proto.ensures.1)
 
 pub emit_new-returns-in-Composite : goal.emit_new-returns-in-Composite
 emit_new-returns-in-Composite t c = λ n. new.new_composite _ _ _ _ n _ _ _ _ _ _ _ _ c.requires _ c.node_of.ensures _ _ c.in-Composite.is (c.emit_composite.ensures n)
 
-pub emit_type-returns-then-stopped : goal.emit_type-returns-then-stopped
-emit_type-returns-then-stopped t c = λ n. laws.stopped_sheet n _ _ _ _ _ (sym c.stopped.ensures ∙ c.if-stopped.true)
-
 pub emit_type-returns-then-left-eq0 : goal.emit_type-returns-then-left-eq0
-emit_type-returns-then-left-eq0 t c = λ n. walk.too_deep _ _ _ _ n _ _ _ _ _ _ _ c.if-left-eq0.true _ c.stop_at.ensures
+emit_type-returns-then-left-eq0 t c = λ n. walk.too_deep _ _ _ _ n _ _ _ _ _ _ _ c.if-left-eq0.true
 
 pub emit_type-returns-in-Emitted : goal.emit_type-returns-in-Emitted
 emit_type-returns-in-Emitted t c = λ n. walk.emit_done _ _ _ _ n _ _ _ _ _ _ _ c.if-left-eq0.false _ c.get_emit_state.ensures c.in-Emitted.is
@@ -79,7 +88,7 @@ pub emit_type-returns-in-Emitting : goal.emit_type-returns-in-Emitting
 emit_type-returns-in-Emitting t c = λ n. walk.emit_busy _ _ _ _ n _ _ _ _ _ _ _ c.if-left-eq0.false _ c.get_emit_state.ensures c.in-Emitting.is _ (c.emit_again.ensures n)
 
 pub emit_type-returns-then-cont-is_named : goal.emit_type-returns-then-cont-is_named
-emit_type-returns-then-cont-is_named t c = λ n. walk.emit_nameless _ _ _ _ n _ _ _ _ _ _ _ c.if-left-eq0.false _ c.get_emit_state.ensures c.in-NotEmitted.is _ c.type_by_id-t.ensures _ c.is_named.ensures c.if-cont-is_named.true _ c.stop_at-then-cont-is_named.ensures
+emit_type-returns-then-cont-is_named t c = λ n. walk.emit_nameless _ _ _ _ n _ _ _ _ _ _ _ c.if-left-eq0.false _ c.get_emit_state.ensures c.in-NotEmitted.is _ c.type_by_id-t.ensures _ c.is_named.ensures c.if-cont-is_named.true
 
 pub emit_type-emit_new-requires : goal.emit_type-emit_new-requires
 emit_type-emit_new-requires t c = (new.to_type_new c.args.left t c.decreases c.if-left-eq0.false, c.type_by_id-t.ensures)

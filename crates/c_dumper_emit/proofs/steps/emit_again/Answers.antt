@@ -8,7 +8,7 @@ pub returns-then-id-cont : goal.returns-then-id-cont
 returns-then-id-cont c = λ n. walk.again_self _ _ _ _ n _ _ _ _ _ _ _ c.get_fwd_emitted.ensures c.if-get_fwd_emitted.false _ c.type_by_id-t.ensures _ c.of.ensures c.in-Struct.is c.if-id-cont.true
 
 pub returns-then-not-is_named : goal.returns-then-not-is_named
-returns-then-not-is_named c = λ n. walk.again_nameless _ _ _ _ n _ _ _ _ _ _ _ c.get_fwd_emitted.ensures c.if-get_fwd_emitted.false _ c.type_by_id-t.ensures _ c.of.ensures c.in-Struct.is c.if-id-cont.false _ c.is_named.ensures c.if-not-is_named.true _ c.stop_at.ensures
+returns-then-not-is_named c = λ n. walk.again_nameless _ _ _ _ n _ _ _ _ _ _ _ c.get_fwd_emitted.ensures c.if-get_fwd_emitted.false _ c.type_by_id-t.ensures _ c.of.ensures c.in-Struct.is c.if-id-cont.false _ c.is_named.ensures c.if-not-is_named.true
 
 pub returns-in-Typedef : goal.returns-in-Typedef
 returns-in-Typedef c = λ n. walk.again_typedef _ _ _ _ n _ _ _ _ _ _ _ c.get_fwd_emitted.ensures c.if-get_fwd_emitted.false _ c.type_by_id-t.ensures _ c.of.ensures c.in-Typedef.is _ c.origin_at-e.ensures _ (c.emit_once-in-Typedef.ensures n)

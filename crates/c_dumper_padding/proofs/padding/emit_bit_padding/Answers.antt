@@ -5,8 +5,8 @@ use Rattle.c_dumper_padding.proofs.padding.emit_bit_padding.Goals as goal
 pub returns-then-end-offset : goal.returns-then-end-offset
 returns-then-end-offset c = emit_none _ _ _ _ _ _ _ _ _ c.if-end-offset.true
 
-pub returns-in-Ok : goal.returns-in-Ok
-returns-in-Ok c = emit_gap _ _ _ _ _ _ _ _ _ c.if-end-offset.false _ _ c.gap_align.ensures _ _ _ _ _ (mode_is _ _ _) (ptr_size _ _ _) c.in-Ok.is c.put_gap.ensures
+pub returns : goal.returns
+returns c = emit_gap _ _ _ _ _ _ _ _ _ c.if-end-offset.false _ _ _ _ _ _ (mode_is _ _ _) (ptr_size _ _ _) c.in_ok-a.ensures c.put_gap.ensures
 
-pub returns-in-Err : goal.returns-in-Err
-returns-in-Err c = emit_refused _ _ _ _ _ _ _ _ _ c.if-end-offset.false _ _ c.gap_align.ensures _ _ _ _ c.in-Err.is c.from.ensures c.stop.ensures
+pub returns-in_err-a : goal.returns-in_err-a
+returns-in_err-a c = emit_refused _ _ _ _ _ _ _ _ _ c.if-end-offset.false _ _ _ c.in_err-a.ensures c.from_residual.ensures.1

@@ -1,4 +1,5 @@
-use Rattle.session_cut_marks.proofs.tags.Laws.{no_tag, tag_unmarked, tag_marked, tag_past}
+use mathlib.Core.Path.{◌∙◌}
+use Rattle.session_cut_marks.proofs.tags.Laws.{no_tag, tag_unmarked, tag_marked}
 use Rattle.session_cut_marks.proofs.tags.mark_tag.Goals as goal
 
 pub returns-in_default : goal.returns-in_default
@@ -7,8 +8,5 @@ returns-in_default c = no_tag _ _ _ _ _ _ c.tag_on.ensures c.in_default.is
 pub returns-then-peek-eq0 : goal.returns-then-peek-eq0
 returns-then-peek-eq0 c = tag_unmarked _ _ _ _ _ _ c.tag_on.ensures _ c.in-Some.is _ c.peek.ensures c.if-peek-eq0.true
 
-pub returns-then-at-marks : goal.returns-then-at-marks
-returns-then-at-marks c = tag_marked _ _ _ _ _ _ c.tag_on.ensures _ c.in-Some.is _ c.peek.ensures c.if-peek-eq0.false c.if-at-marks.true
-
-pub returns-else-at-marks : goal.returns-else-at-marks
-returns-else-at-marks c = tag_past _ _ _ _ _ _ c.tag_on.ensures _ c.in-Some.is _ c.peek.ensures c.if-peek-eq0.false c.if-at-marks.false
+pub returns : goal.returns
+returns c = c.store.ensures ∙ tag_marked _ _ _ _ _ _ c.tag_on.ensures _ c.in-Some.is _ c.peek.ensures c.if-peek-eq0.false

@@ -16,10 +16,10 @@ pub returns-in-Stay : goal.returns-in-Stay
 returns-in-Stay t c = let h = c.in-Stay.is in laws.walk_stay _ _ _ _ _ _ _ _ c.behind-shape.ensures _ c.next_step.ensures (c.in_ok-step.was ∙ cc)
 
 pub returns-then-n-eq-MOST_CALLS : goal.returns-then-n-eq-MOST_CALLS
-returns-then-n-eq-MOST_CALLS t c = let h = c.in-Field.is in laws.walk_full _ _ _ _ _ _ _ _ c.behind-shape.ensures _ c.next_step.ensures c.if-n-eq-MOST_CALLS.true _ c.in_ok-step.was (λ e. cc) _ c.from.ensures
+returns-then-n-eq-MOST_CALLS t c = let h = c.in-Field.is in laws.walk_full _ _ _ _ _ _ _ _ c.behind-shape.ensures _ c.next_step.ensures c.if-n-eq-MOST_CALLS.true _ c.in_ok-step.was (λ e. cc)
 
 pub returns-then-n-eq-MOST_CALLS-2 : goal.returns-then-n-eq-MOST_CALLS-2
-returns-then-n-eq-MOST_CALLS-2 t c = let h = c.in-Enter.is in laws.walk_full _ _ _ _ _ _ _ _ c.behind-shape.ensures _ c.next_step.ensures c.if-n-eq-MOST_CALLS-2.true _ c.in_ok-step.was (λ e. cc) _ c.from-then-n-eq-MOST_CALLS-2.ensures
+returns-then-n-eq-MOST_CALLS-2 t c = let h = c.in-Enter.is in laws.walk_full _ _ _ _ _ _ _ _ c.behind-shape.ensures _ c.next_step.ensures c.if-n-eq-MOST_CALLS-2.true _ c.in_ok-step.was (λ e. cc)
 
 pub returns-else-n-eq-MOST_CALLS : goal.returns-else-n-eq-MOST_CALLS
 returns-else-n-eq-MOST_CALLS t c = let h = c.in-Field.is in laws.walk_field _ _ _ _ _ _ _ _ c.behind-shape.ensures _ c.next_step.ensures c.requires c.if-n-eq-MOST_CALLS.false c.in-Field.k (c.in_ok-step.was ∙ cc) _ c.put_entry.ensures

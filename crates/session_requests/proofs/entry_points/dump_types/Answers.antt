@@ -2,4 +2,4 @@ use Rattle.session_requests.proofs.options.Cases as cases
 use Rattle.session_requests.proofs.entry_points.dump_types.Goals as goal
 
 pub returns : goal.returns
-returns c = cases.call_types _ _ _ _ _ _ _ _ _ c.request_types.ensures
+returns c = cases.call_types _ _ _ _ _ _ _ _ _ c.request.ensures

@@ -15,5 +15,8 @@ returns-then-s-id c = laws.type_10 _ _ _ _ _ _ _ c.is_current.ensures (ap not c.
 pub dump_one-r-requires : goal.dump_one-r-requires
 dump_one-r-requires c = (ends.current_fits _ _ _ _ _ c.is_current.ensures (ap not c.if-not-is_current.false), laws.few_settings _ _ _ _ _ c.btf_of-head.ensures, λ _. zero-le, c.requires)
 
+pub end-requires : goal.end-requires
+end-requires c = omega (arith, c.dump_one-r.auto.list, c.dump_one-r.ensures.1)
+
 pub returns : goal.returns
-returns c = laws.type_done _ _ _ _ _ _ _ c.is_current.ensures (ap not c.if-not-is_current.false) _ c.btf_of-head.ensures _ _ _ _ c.dump_one-r.auto.work c.dump_one-r.auto.text c.dump_one-r.auto.list (λ i. omega (arith, c.slice_known-7-1.given i)) c.dump_one-r.ensures.1 _ _ _ _ c.settle-turn.ensures c.clear_entries.ensures _ c.if-s-id.false c.dump_one-r.ensures.0
+returns c = laws.type_done _ _ _ _ _ _ _ c.is_current.ensures (ap not c.if-not-is_current.false) _ c.btf_of-head.ensures _ _ _ _ c.dump_one-r.auto.work c.dump_one-r.auto.text c.dump_one-r.auto.list _ _ _ _ c.end.ensures _ c.if-s-id.false c.dump_one-r.ensures.0

@@ -11,5 +11,8 @@ returns-then-not-is_current c = laws.types_11 _ _ _ _ _ _ _ c.is_current.ensures
 pub dump_all-r-requires : goal.dump_all-r-requires
 dump_all-r-requires c = (ends.current_fits _ _ _ _ _ c.is_current.ensures (ap not c.if-not-is_current.false), laws.few_settings _ _ _ _ _ c.btf_of-head.ensures, c.requires)
 
+pub end-requires : goal.end-requires
+end-requires c = omega (arith, c.dump_all-r.auto.list, c.dump_all-r.ensures.1)
+
 pub returns : goal.returns
-returns c = laws.types_done _ _ _ _ _ _ _ c.is_current.ensures (ap not c.if-not-is_current.false) _ c.btf_of-head.ensures _ _ _ _ c.dump_all-r.auto.work c.dump_all-r.auto.text c.dump_all-r.auto.list (λ i. omega (arith, c.slice_known-7-1.given i)) c.dump_all-r.ensures.1 _ _ _ _ c.settle-turn.ensures c.clear_entries.ensures c.dump_all-r.ensures.0
+returns c = laws.types_done _ _ _ _ _ _ _ c.is_current.ensures (ap not c.if-not-is_current.false) _ c.btf_of-head.ensures _ _ _ _ c.dump_all-r.auto.work c.dump_all-r.auto.text c.dump_all-r.auto.list _ _ _ _ c.end.ensures c.dump_all-r.ensures.0

@@ -9,4 +9,4 @@ pub returns-then-record-lt-RECORD_BYTES : goal.returns-then-record-lt-RECORD_BYT
 returns-then-record-lt-RECORD_BYTES c = laws.list_short _ _ _ _ _ _ c.if-ids-lt4.false c.if-record-lt-RECORD_BYTES.true
 
 pub returns : goal.returns
-returns c = laws.list_is _ _ _ _ _ _ c.if-ids-lt4.false c.if-record-lt-RECORD_BYTES.false _ c.decode-s.ensures _ _ _ _ _ (cases.within_list _ _ _ _ _ _ _ _ _ _ _ c.request_list-d.ensures) c.listed.ensures
+returns c = laws.list_is _ _ _ _ _ _ c.if-ids-lt4.false c.if-record-lt-RECORD_BYTES.false _ c.decode-s.ensures _ _ _ _ _ (cases.within_list _ _ _ _ _ _ _ _ _ _ _ c.request-d.ensures) c.listed.ensures

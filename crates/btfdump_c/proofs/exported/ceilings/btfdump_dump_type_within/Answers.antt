@@ -6,4 +6,4 @@ pub returns-then-record-lt-RECORD_BYTES : goal.returns-then-record-lt-RECORD_BYT
 returns-then-record-lt-RECORD_BYTES c = laws.type_short _ _ _ _ _ c.if-record-lt-RECORD_BYTES.true _
 
 pub returns : goal.returns
-returns c = laws.type_is _ _ _ _ _ c.if-record-lt-RECORD_BYTES.false _ c.decode-s.ensures _ _ _ _ _ _ (cases.within_type _ _ _ _ _ _ _ _ _ _ _ c.request_type-d.ensures) c.answered.ensures
+returns c = laws.type_is _ _ _ _ _ c.if-record-lt-RECORD_BYTES.false _ c.decode-s.ensures _ _ _ _ _ _ (cases.within_type _ _ _ _ _ _ _ _ _ _ _ c.request-d.ensures) c.answered.ensures

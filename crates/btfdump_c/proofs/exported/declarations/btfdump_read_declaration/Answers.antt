@@ -7,8 +7,8 @@ use Rattle.btfdump_c.proofs.exported.declarations.btfdump_read_declaration.Goals
 pub returns-then-chain-lt-CHAIN_WORDS : goal.returns-then-chain-lt-CHAIN_WORDS
 returns-then-chain-lt-CHAIN_WORDS c = back.read_short _ _ c.if-chain-lt-CHAIN_WORDS.true
 
-pub returns-then-n-eq0 : goal.returns-then-n-eq0
-returns-then-n-eq0 c = let h : 1536 ≤ length c.args.chain.now = omega arith in back.read_refused _ _ h _ _ c.read_declaration-n.ensures c.if-n-eq0.true
+pub returns-in-None : goal.returns-in-None
+returns-in-None c = let h : 1536 ≤ length c.args.chain.now = omega arith in back.read_refused _ _ h _ _ c.read_declaration.ensures c.in-None.is
 
-pub returns : goal.returns
-returns c = let h : 1536 ≤ length c.args.chain.now = omega arith in back.read_good _ _ h _ _ c.read_declaration-n.ensures c.if-n-eq0.false
+pub returns-in-Some : goal.returns-in-Some
+returns-in-Some c = let h : 1536 ≤ length c.args.chain.now = omega arith in back.read_good _ _ h _ _ c.read_declaration.ensures _ c.in-Some.is

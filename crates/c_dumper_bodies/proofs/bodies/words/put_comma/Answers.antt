@@ -6,4 +6,4 @@ pub returns-then-k-eq0 : goal.returns-then-k-eq0
 returns-then-k-eq0 c = put_same _ _ _ _ _ _ (laws.comma_first _ c.if-k-eq0.true) (put_empty _ _)
 
 pub returns : goal.returns
-returns c = put_same _ _ _ _ _ _ (laws.comma_more _ c.if-k-eq0.false) c.put_two.ensures
+returns c = put_same _ _ _ _ _ _ (laws.comma_more _ c.if-k-eq0.false) c.put_bytes.ensures

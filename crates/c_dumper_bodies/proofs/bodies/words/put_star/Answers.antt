@@ -6,4 +6,4 @@ pub returns-then-last_was_ptr : goal.returns-then-last_was_ptr
 returns-then-last_was_ptr c = put_same _ _ _ _ _ _ (laws.star_after _ c.if-last_was_ptr.true) c.put_byte.ensures
 
 pub returns : goal.returns
-returns c = put_same _ _ _ _ _ _ (laws.star_apart _ c.if-last_was_ptr.false) c.put_two.ensures
+returns c = put_same _ _ _ _ _ _ (laws.star_apart _ c.if-last_was_ptr.false) c.put_bytes.ensures

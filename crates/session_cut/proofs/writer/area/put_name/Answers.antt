@@ -1,9 +1,13 @@
 use Rattle.std.proofs.lemmas.Bool.{not_from_true, not_from_false}
+use Rattle.spec_bytes.proofs.text.TextLaws.{put_ended}
 use Rattle.session_cut.proofs.writer.Strings.{name_none, name_put}
 use Rattle.session_cut.proofs.writer.area.put_name.Goals as goal
 
 pub returns-then-not-new : goal.returns-then-not-new
 returns-then-not-new c = name_none _ _ _ _ _ (not_from_false _ c.if-not-new.true) _ _
 
+pub returns-in_err-p : goal.returns-in_err-p
+returns-in_err-p c = name_put _ _ _ _ _ (not_from_true _ c.if-not-new.false) _ c.word_of.ensures _ _ _ _ _ _ c.in_err-p.ensures (put_ended _ _ _ _ c.from_residual.ensures.1)
+
 pub returns : goal.returns
-returns c = name_put _ _ _ _ _ (not_from_true _ c.if-not-new.false) _ c.word_of.ensures _ _ _ _ _ _ c.put_str-p.ensures c.put_byte.ensures
+returns c = name_put _ _ _ _ _ (not_from_true _ c.if-not-new.false) _ c.word_of.ensures _ _ _ _ _ _ c.in_ok-p.ensures c.put_byte.ensures

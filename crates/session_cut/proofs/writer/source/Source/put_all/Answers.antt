@@ -1,5 +1,12 @@
+use Rattle.spec_bytes.proofs.text.TextLaws.{put_past, put_ended}
 use Rattle.session_cut.proofs.writer.Laws.{all_put}
 use Rattle.session_cut.proofs.writer.source.Source.put_all.Goals as goal
 
+pub returns-in_err-p : goal.returns-in_err-p
+returns-in_err-p c = all_put _ _ _ _ _ _ _ _ _ _ _ _ _ _ _ c.peek-flags.ensures c.in_err-p.ensures (put_past _ _ _) (put_ended _ _ _ _ c.from_residual.ensures.1)
+
+pub returns-in_err-q : goal.returns-in_err-q
+returns-in_err-q c = all_put _ _ _ _ _ _ _ _ _ _ _ _ _ _ _ c.peek-flags.ensures c.in_ok-p.ensures c.in_err-q.ensures (put_ended _ _ _ _ c.from_residual-in_err-q.ensures.1)
+
 pub returns : goal.returns
-returns c = all_put _ _ _ _ _ _ _ _ _ _ _ _ _ _ _ c.peek-flags.ensures c.put_head-p.ensures c.put_types-q.ensures c.put_strings.ensures
+returns c = all_put _ _ _ _ _ _ _ _ _ _ _ _ _ _ _ c.peek-flags.ensures c.in_ok-p.ensures c.in_ok-q.ensures c.put_strings.ensures

@@ -1,4 +1,4 @@
-use Rattle.session_cut.proofs.writer.Laws.{no_words, more_words, all_words}
+use Rattle.session_cut.proofs.writer.Laws.{no_words, more_words, all_words, words_stop}
 use Rattle.session_cut.proofs.writer.Strings.{base_start, more_length}
 use Rattle.session_cut_marks.proofs.interned.Found.{length_few}
 use native.Mathlib.Omega.{arith}
@@ -19,7 +19,10 @@ longer-len-requires c =
     (right.short, omega (arith, c.mention-m.ensures.same_length, length_few _ _ _ _ _ right _ _ c.requires.0 _ _ (omega (arith, c.words_in-j-end.ensures)) c.loop-j.invariant.1))
 
 pub loop-j-preserved : goal.loop-j-preserved
-loop-j-preserved c = (more_words _ _ _ _ _ _ _ _ _ _ _ _ _ _ _ c.mention-m.ensures.same_word c.loop-j.invariant.0 c.new_word.ensures c.put_word-p.ensures, more_length _ _ _ _ _ _ _ _ _ _ _ _ _ _ c.mention-m.ensures c.loop-j.invariant.1 c.longer-len.ensures)
+loop-j-preserved c = (more_words _ _ _ _ _ _ _ _ _ _ _ _ _ _ _ c.mention-m.ensures.same_word c.loop-j.invariant.0 c.new_word.ensures c.in_ok-p.ensures, more_length _ _ _ _ _ _ _ _ _ _ _ _ _ _ c.mention-m.ensures c.loop-j.invariant.1 c.longer-len.ensures)
+
+pub returns-in_err-p : goal.returns-in_err-p
+returns-in_err-p c = words_stop _ _ _ _ _ _ _ _ _ _ _ _ c.words_in-j-end.ensures c.loop-j-test.true (more_words _ _ _ _ _ _ _ _ _ _ _ _ _ _ _ c.mention-m.ensures.same_word c.loop-j.invariant.0 c.new_word.ensures c.in_err-p.ensures) _ c.from_residual.ensures.1
 
 pub returns : goal.returns
 returns c = all_words _ _ _ _ _ _ _ _ _ _ _ _ c.words_in-j-end.ensures c.loop-j.auto.j-end c.loop-j-test.false c.loop-j.invariant.0
