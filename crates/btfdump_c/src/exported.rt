@@ -13,12 +13,14 @@ ghost use Rattle.spec_c_calls.specs.Field.{path_export_of, field_export};
 
 use session_field_at_bit::field::which_field;
 use session_record::record_bytes::{answered, listed, opened};
-use session_record::record_words::{
-    ANSWER_CLOSED, ANSWER_SHORT_SLICE, RECORD_BYTES, decode, number_or_value,
-};
+use session_record::record_words::{ANSWER_SHORT_SLICE, RECORD_BYTES, decode, number_or_value};
 use session_requests::open_call::open_core;
 use session_requests::options::{Options, Wanted};
 use session_requests::requests::request;
+use spec_bytes::refusal::Refusal;
+
+// The head of each call says what a record that is too short leaves, as it differs by call: opening answers 255, the others 11; those of
+// `ceilings` and `explained` store a 0 too; and a list of no ids answers 0 before the record is looked at.
 
 #[unsafe(no_mangle)]
 pub extern "C" fn btfdump_open(
@@ -51,7 +53,7 @@ pub extern "C" fn btfdump_dump_type(
         ≡ type_export «record».old section.now work.old text.old id }
 {
     if record.len() < RECORD_BYTES {
-        return ANSWER_CLOSED;
+        return number_or_value(Err(Refusal::SessionClosed));
     }
     let s = decode(record);
     let o = Options::Plain;
@@ -70,7 +72,7 @@ pub extern "C" fn btfdump_dump_types(
         ≡ types_export «record».old section.now work.old text.old }
 {
     if record.len() < RECORD_BYTES {
-        return ANSWER_CLOSED;
+        return number_or_value(Err(Refusal::SessionClosed));
     }
     let s = decode(record);
     let o = Options::Plain;
@@ -93,7 +95,7 @@ pub extern "C" fn btfdump_dump_list(
         return 0;
     }
     if record.len() < RECORD_BYTES {
-        return ANSWER_CLOSED;
+        return number_or_value(Err(Refusal::SessionClosed));
     }
     let s = decode(record);
     let o = Options::Plain;
@@ -114,7 +116,7 @@ pub extern "C" fn btfdump_field(
         ≡ field_export «record».now section.now work.now path.old id bit }
 {
     if record.len() < RECORD_BYTES {
-        return ANSWER_CLOSED;
+        return number_or_value(Err(Refusal::SessionClosed));
     }
     let a = which_field(decode(record), section, work, path, id, bit);
     number_or_value(a)

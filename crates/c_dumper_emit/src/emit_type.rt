@@ -8,7 +8,7 @@ ghost use Rattle.spec_type_table.specs.Table.{btf_of};
 ghost use Rattle.spec_type_table.specs.Nodes.{member_ids};
 ghost use Rattle.c_dumper_dependency_order.specs.leaders.Leads.{entry_in};
 ghost use Rattle.spec_session.specs.emission.Sheet.{sheet_store};
-ghost use Rattle.c_dumper_emit.specs.emit_type.Ids.{held_id, held_ids};
+ghost use Rattle.c_dumper_dependency_order.specs.entries.Entries.{entry_ids};
 ghost use Rattle.c_dumper_emit.specs.entries.Noted.{noted_out, lent_list, emit_n, new_n, composite_n, leaf_n};
 
 use crate::entries::{Asked, Cause, Pen, origin_at};
@@ -19,27 +19,11 @@ use crate::steps::{
 };
 use base_bytes::limit;
 use base_bytes::refusal::Refusal;
-use btf_type_table::kind::{entries_of, member_place, param_place};
+use btf_type_table::kind::entries_of;
 use btf_type_table::table::Table;
+use c_dumper_dependency_order::entries::{Each, entry_type};
 use c_dumper_dependency_order::order_state::get_listed;
 use spec_type_table::{BtfType, Entries, Node};
-
-// Which entries a record has: members, or the parameters of a prototype.
-#[derive(Clone, Copy)]
-enum Held {
-    Members,
-    Params,
-}
-
-// The type of entry k.
-fn held_id(b: &Table, held: Held, es: Entries, k: u32) -> u32
-    ensures { result ≡ held_id held b.now.head b.now.section.now es k }
-{
-    match held {
-        Held::Members => b.word(member_place(es, k) + 4),
-        Held::Params => b.word(param_place(es, k) + 4),
-    }
-}
 
 // Whether a call would find its id emitted, and print nothing.
 fn is_done(work: &[u8], id: u32, left: u32) -> bool
@@ -48,7 +32,8 @@ fn is_done(work: &[u8], id: u32, left: u32) -> bool
     (left != 0) & (get_emit_state(work, id) == EmitState::Emitted)
 }
 
-// cont is the composite or typedef that is being emitted around id, or 0 at the top.
+// cont is the composite or typedef that is being emitted around id, or 0 at the top. It stays a number: the top of the definitions and
+// the table's void share 0, and no composite or typedef has id 0; an Option could be Some(0), of which the definitions say nothing.
 #[cycle(emit_type)]
 pub fn emit_type(
     b: &Table,
@@ -117,8 +102,8 @@ fn emit_new(
         }
         Node::Proto(y, ps) => {
             let a = emit_type(b, work, text, list, q, p, y, cont, left)?;
-            let held = Held::Params;
-            emit_entries(b, work, text, list, q, a, held, ps, cont, left)
+            let each = Each::Param;
+            emit_entries(b, work, text, list, q, a, each, ps, cont, left)
         }
         Node::Composite(_) => { emit_composite(b, work, text, list, q, p, id, t, cont, left) }
     }
@@ -150,9 +135,9 @@ fn emit_composite(
     }
     set_emit_state(work, id, EmitState::Emitting);
     let within = inner(named, id, cont);
-    let held = Held::Members;
+    let each = Each::Member;
     let ms = entries_of(t);
-    let a = emit_entries(b, work, text, list, q, p, held, ms, within, left)?;
+    let a = emit_entries(b, work, text, list, q, p, each, ms, within, left)?;
     end_composite(b, work, text, list, q, a, id, t, cont)
 }
 
@@ -165,7 +150,7 @@ fn emit_entries(
     list: &mut [u8],
     q: &Asked,
     p: Pen,
-    held: Held,
+    each: Each,
     es: Entries,
     cont: u32,
     left: u32,
@@ -174,11 +159,11 @@ fn emit_entries(
         ≡ obind (noted_out n (Ok p) text.old work.old list.old)
         (λ m. eeach
         (emit_n b.now.head (btf_of b.now.head b.now.section.now work.old) (lent_list q.now.lists list.old)
-        (entry_in q.now.req q.now.turn q.now.leads.now) left cont) (held_ids held b.now.head b.now.section.now es) m) }
+        (entry_in q.now.req q.now.turn q.now.leads.now) left cont) (entry_ids b.now.head b.now.section.now each es) m) }
 {
     let mut a = p;
     for k in 0..es.vlen {
-        let t = held_id(b, held, es, k);
+        let t = entry_type(b, es, each, k);
         if is_done(work, t, left) {
             continue;
         }

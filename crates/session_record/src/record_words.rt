@@ -17,11 +17,7 @@ pub const RECORD_BYTES: usize = 128;
 // Words of the record that are used, of sixteen.
 const USED_WORDS: usize = 9;
 
-// Answers of a refusal and the value 0: 11, 19, and 255 for a slice that is shorter than C promises.
-pub const ANSWER_CLOSED: u64 = 11 * limit::TWO_TO_32;
-
-pub const ANSWER_NO_DECLARATION: u64 = 19 * limit::TWO_TO_32;
-
+// The answer 255 with value 0, for a slice that is shorter than C promises: no refusal has this number.
 pub const ANSWER_SHORT_SLICE: u64 = 255 * limit::TWO_TO_32;
 
 #[tactic(auto, unfolding(crate::specs::record_words::Words::packed, spec_session::specs::session::Answers::number_of, spec_session::specs::session::Answers::value_of))]
@@ -35,14 +31,10 @@ pub fn number_and_value(a: Result<u32, Refused>) -> u64
 }
 
 // The same of a call that says nothing beside its refusal.
-#[tactic(auto, unfolding(crate::specs::record_words::Words::packed, spec_session::specs::session::Answers::number_of, spec_session::specs::session::Answers::value_of))]
 pub fn number_or_value(a: Result<u32, Refusal>) -> u64
     ensures { result ≡ packed (alone a) }
 {
-    match a {
-        Ok(value) => value as u64,
-        Err(refusal) => (u32::from(refusal) as u64) * limit::TWO_TO_32,
-    }
+    number_and_value(a.map_err(|refusal| Refused { refusal, value: 0 }))
 }
 
 // Word i of the record.

@@ -1,10 +1,12 @@
 // The calls of a session whose record is lent by `&mut`: thin entry points over the calls by value of `open_call` and
 // `requests`.
-ghost use Rattle.std.specs.Prelude.{◌≡◌};
+ghost use Rattle.std.specs.Prelude.{◌≡◌, []};
 ghost use Rattle.spec_session.specs.session.Answers.{answer_is};
 ghost use Rattle.spec_session.specs.session.Turns.{call_of};
 ghost use Rattle.spec_session.specs.calls.Calls.{open_call, type_call, types_call};
 ghost use Rattle.spec_session.specs.calls.Lists.{ids_in, list_call};
+ghost use Rattle.session_requests.specs.declared.options.Options.TheVariants.{Plain};
+ghost use Rattle.session_requests.specs.options.Lists.{call_with};
 
 use crate::open_call::open_core;
 use crate::options::{Options, Wanted};
@@ -27,6 +29,31 @@ pub fn open(
     turn.answer
 }
 
+// A call without options, by what is wanted.
+fn requested(
+    s: &mut Session,
+    section: &[u8],
+    work: &mut [u8],
+    text: &mut [u8],
+    wanted: Wanted,
+) -> Result<u32, Refused>
+    ensures { call_of s.new (answer_is result) work.new text.new
+        ≡ (call_with Plain s.old section.now work.old text.old wanted.entry []).call }
+{
+    let turn = request(
+        *s,
+        section,
+        work,
+        text,
+        &mut [0u8; 0],
+        wanted,
+        Options::Plain,
+    )
+    .turn;
+    *s = turn.session;
+    turn.answer
+}
+
 pub fn dump_type(
     s: &mut Session,
     section: &[u8],
@@ -37,18 +64,7 @@ pub fn dump_type(
     ensures { call_of s.new (answer_is result) work.new text.new ≡ type_call s.old section.now
         work.old text.old id }
 {
-    let turn = request(
-        *s,
-        section,
-        work,
-        text,
-        &mut [0u8; 0],
-        Wanted::One(id),
-        Options::Plain,
-    )
-    .turn;
-    *s = turn.session;
-    turn.answer
+    requested(s, section, work, text, Wanted::One(id))
 }
 
 pub fn dump_types(
@@ -60,18 +76,7 @@ pub fn dump_types(
     ensures { call_of s.new (answer_is result) work.new text.new
         ≡ types_call s.old section.now work.old text.old }
 {
-    let turn = request(
-        *s,
-        section,
-        work,
-        text,
-        &mut [0u8; 0],
-        Wanted::All,
-        Options::Plain,
-    )
-    .turn;
-    *s = turn.session;
-    turn.answer
+    requested(s, section, work, text, Wanted::All)
 }
 
 // The single requests for the ids of a list, four bytes each, to the first that is refused; the value is how many were
@@ -86,16 +91,5 @@ pub fn dump_list(
     ensures { call_of s.new (answer_is result) work.new text.new
         ≡ list_call s.old section.now work.old text.old (ids_in ids.now) }
 {
-    let turn = request(
-        *s,
-        section,
-        work,
-        text,
-        &mut [0u8; 0],
-        Wanted::Ids(ids),
-        Options::Plain,
-    )
-    .turn;
-    *s = turn.session;
-    turn.answer
+    requested(s, section, work, text, Wanted::Ids(ids))
 }

@@ -4,7 +4,8 @@ ghost use Rattle.session_declaration_reader.specs.bases.Items.{placed};
 ghost use Rattle.spec_c_calls.specs.Declarations.{read_export};
 
 use session_declaration_reader::reader::{CHAIN_WORDS, read_declaration};
-use session_record::record_words::{ANSWER_NO_DECLARATION, ANSWER_SHORT_SLICE};
+use session_record::record_words::{ANSWER_SHORT_SLICE, number_or_value};
+use spec_bytes::refusal::Refusal;
 
 #[unsafe(no_mangle)]
 pub extern "C" fn btfdump_read_declaration(text: &[u8], chain: &mut [u64]) -> u64
@@ -15,6 +16,6 @@ pub extern "C" fn btfdump_read_declaration(text: &[u8], chain: &mut [u64]) -> u6
     }
     match read_declaration(text, chain) {
         Some(n) => n as u64,
-        None => ANSWER_NO_DECLARATION,
+        None => number_or_value(Err(Refusal::NoDeclaration)),
     }
 }

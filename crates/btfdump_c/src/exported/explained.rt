@@ -4,9 +4,10 @@ ghost use Rattle.spec_c_calls.specs.Causes.{causes_export_of, type_causes_export
 ghost use Rattle.spec_session.specs.calls.Lists.{ids_in};
 
 use session_record::record_bytes::{answered, listed};
-use session_record::record_words::{ANSWER_CLOSED, RECORD_BYTES, decode};
+use session_record::record_words::{RECORD_BYTES, decode, number_or_value};
 use session_requests::options::{Options, Wanted};
 use session_requests::requests::request;
+use spec_bytes::refusal::Refusal;
 
 #[unsafe(no_mangle)]
 pub extern "C" fn btfdump_dump_type_causes(
@@ -23,7 +24,7 @@ pub extern "C" fn btfdump_dump_type_causes(
 {
     if record.len() < RECORD_BYTES {
         *count = 0;
-        return ANSWER_CLOSED;
+        return number_or_value(Err(Refusal::SessionClosed));
     }
     let s = decode(record);
     let o = Options::Listed;
@@ -46,7 +47,7 @@ pub extern "C" fn btfdump_dump_types_causes(
 {
     if record.len() < RECORD_BYTES {
         *count = 0;
-        return ANSWER_CLOSED;
+        return number_or_value(Err(Refusal::SessionClosed));
     }
     let s = decode(record);
     let o = Options::Listed;
@@ -75,7 +76,7 @@ pub extern "C" fn btfdump_dump_list_causes(
     }
     if record.len() < RECORD_BYTES {
         *count = 0;
-        return ANSWER_CLOSED;
+        return number_or_value(Err(Refusal::SessionClosed));
     }
     let s = decode(record);
     let o = Options::Listed;

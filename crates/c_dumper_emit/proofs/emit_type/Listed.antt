@@ -8,18 +8,14 @@ use Rattle.spec_c_dumper.specs.rules.Machine.{Out, obind, eeach}
 use Rattle.spec_type_table.specs.declared.types.TypeTable.{TypeTable}
 use Rattle.spec_type_table.specs.declared.types.Entries.{Entries}
 use Rattle.spec_type_table.specs.Cells.{get_field}
-use Rattle.spec_type_table.specs.Records.{section_word, member_at, param_at}
-use Rattle.spec_type_table.specs.Nodes.{member_ids, param_ids}
 use Rattle.spec_type_table.specs.Table.{from, btf_of}
 use Rattle.c_dumper_dependency_order.specs.order_state.Work.{work_store}
 use Rattle.spec_session.specs.emission.Sheet.{Sheet, sheet_store}
 use Rattle.spec_session.proofs.emission.Frame.{places}
 use Rattle.spec_c_dumper.specs.origins.Causes.{Entry, Noted}
 use Rattle.c_dumper_emit.specs.declared.entries.Pen.{Pen}
-use Rattle.c_dumper_dependency_order.proofs.order_state.Laws.{entry_word}
-use Rattle.c_dumper_emit.specs.declared.emit_type.Held.{Held}
-use Rattle.c_dumper_emit.specs.declared.emit_type.Held.TheVariants.{Members, Params}
-use Rattle.c_dumper_emit.specs.emit_type.Ids.{held_id, held_ids}
+use Rattle.c_dumper_dependency_order.specs.declared.entries.Each.{Each}
+use Rattle.c_dumper_dependency_order.specs.entries.Entries.{entry_type, entry_ids}
 use Rattle.c_dumper_emit.specs.entries.Noted.{Lent, noted_out, emit_n}
 use Rattle.c_dumper_emit.proofs.entries.Frame.{Stays, stays_then, places_emit}
 use Rattle.c_dumper_emit.proofs.entries.Laws.{Penned, kept_by, at_pen, entry_stays}
@@ -53,31 +49,15 @@ module _ (b : TypeTable) (s : List ℕ) (lent : Lent) (why : ℕ → Entry) (w�
       → noted_out n r tx w li ≡ obind (noted_out n (Ok p₀) tx₀ w₀ l₀) (λ m. eeach (emit_n b (btf_of b s w₀) lent why 512 0) (sheet_store.list m.mach) m)
   listing_halts c tx w li k inv r e = rest_halts b s lent why w₀ 512 0 (places w₀) n p₀ tx₀ l₀ n c tx w li k inv.rest r e ∙ all_listed
 
--- ---- held_id
-module _ (b : TypeTable) (s : List ℕ) (es : Entries) (k p y : ℕ) (h : Held) (e : y ≡ section_word b s (p + 4)) where
-  pub held_member : h ≡ Members → p ≡ member_at es.at k → y ≡ held_id h b s es k
-  unfolding held_id
-  held_member q f = rw q (entry_word b s p _ y e f)
-
-  pub held_param : h ≡ Params → p ≡ param_at es.at k → y ≡ held_id h b s es k
-  unfolding held_id
-  held_param q f = rw q (entry_word b s p _ y e f)
-
 -- ---- emit_entries
-held_all : (b : TypeTable) (s : List ℕ) (es : Entries) (h : Held) → from (held_id h b s es) 0 es.vlen ≡ held_ids h b s es
-unfolding held_id member_ids param_ids
-held_all b s es Members = refl
-held_all b s es Params = refl
-
-module _ (b : TypeTable) (s : List ℕ) (lent : Lent) (why : ℕ → Entry) (w₀ : List ℕ) (left cont : ℕ) (h : Held) (es : Entries) (n : ℕ) (p₀ : Pen) (tx₀ l₀ : List ℕ) where
+module _ (b : TypeTable) (s : List ℕ) (lent : Lent) (why : ℕ → Entry) (w₀ : List ℕ) (left cont : ℕ) (each : Each) (es : Entries) (n : ℕ) (p₀ : Pen) (tx₀ l₀ : List ℕ) where
   abbrev Entered : Out (Noted Sheet) → Type 0
-  Entered x = x ≡ obind (noted_out n (Ok p₀) tx₀ w₀ l₀) (λ m. eeach (emit_n b (btf_of b s w₀) lent why left cont) (held_ids h b s es) m)
+  Entered x = x ≡ obind (noted_out n (Ok p₀) tx₀ w₀ l₀) (λ m. eeach (emit_n b (btf_of b s w₀) lent why left cont) (entry_ids b s each es) m)
 
-  all_held : obind (noted_out n (Ok p₀) tx₀ w₀ l₀) (λ m. eeach (emit_n b (btf_of b s w₀) lent why left cont) (from (held_id h b s es) 0 es.vlen) m) ≡ obind (noted_out n (Ok p₀) tx₀ w₀ l₀) (λ m. eeach (emit_n b (btf_of b s w₀) lent why left cont) (held_ids h b s es) m)
-  all_held = ap (λ (ids : List ℕ). obind (noted_out n (Ok p₀) tx₀ w₀ l₀) (λ m. eeach (emit_n b (btf_of b s w₀) lent why left cont) ids m)) (held_all b s es h)
+  pub entries_end : (p : Pen) (tx w li : List ℕ) (k : ℕ) → Rest b s lent why w₀ left cont (entry_type b s each es) n p₀ tx₀ l₀ es.vlen (Ok p) tx w li k → es.vlen ≤ k → Entered (noted_out n (Ok p) tx w li)
+  unfolding entry_ids
+  entries_end p tx w li k inv e = rest_end b s lent why w₀ left cont (entry_type b s each es) n p₀ tx₀ l₀ es.vlen p tx w li k inv e
 
-  pub entries_end : (p : Pen) (tx w li : List ℕ) (k : ℕ) → Rest b s lent why w₀ left cont (held_id h b s es) n p₀ tx₀ l₀ es.vlen (Ok p) tx w li k → es.vlen ≤ k → Entered (noted_out n (Ok p) tx w li)
-  entries_end p tx w li k inv e = rest_end b s lent why w₀ left cont (held_id h b s es) n p₀ tx₀ l₀ es.vlen p tx w li k inv e ∙ all_held
-
-  pub entries_halt : (c : Refusal) (tx w li : List ℕ) (k : ℕ) → Rest b s lent why w₀ left cont (held_id h b s es) n p₀ tx₀ l₀ es.vlen (Err c) tx w li k → (r : Penned) → IsErrAnd r (λ e. e ≡ c) → Entered (noted_out n r tx w li)
-  entries_halt c tx w li k inv r e = rest_halts b s lent why w₀ left cont (held_id h b s es) n p₀ tx₀ l₀ es.vlen c tx w li k inv r e ∙ all_held
+  pub entries_halt : (c : Refusal) (tx w li : List ℕ) (k : ℕ) → Rest b s lent why w₀ left cont (entry_type b s each es) n p₀ tx₀ l₀ es.vlen (Err c) tx w li k → (r : Penned) → IsErrAnd r (λ e. e ≡ c) → Entered (noted_out n r tx w li)
+  unfolding entry_ids
+  entries_halt c tx w li k inv r e = rest_halts b s lent why w₀ left cont (entry_type b s each es) n p₀ tx₀ l₀ es.vlen c tx w li k inv r e

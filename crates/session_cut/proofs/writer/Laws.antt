@@ -1,5 +1,5 @@
 -- A law for each return of the code, and for each loop its start, its turn and its end. Assumes nothing.
-use Prim.Native.Nat.{ℕ, zero, suc, ◌+◌, ◌-◌, ◌*◌, ◌/◌, ◌%◌, ◌<◌, ◌≤◌}
+use Prim.Native.Nat.{ℕ, zero, suc, ◌+◌, ◌*◌, ◌/◌, ◌%◌, ◌<◌, ◌≤◌}
 use native.Mathlib.Omega.{arith}
 use native.Mathlib.Numerals.{add-one}
 use native.Mathlib.Decide.{ℕ_discrete}
@@ -34,7 +34,7 @@ use Rattle.session_cut_marks.specs.interned.Right.{all_bases, Right, StringKept}
 use Rattle.session_cut_marks.proofs.interned.Right.{table_over, table_length, table_bases}
 use Rattle.session_cut_marks.proofs.interned.Places.{base_up}
 use Rattle.session_cut_marks.proofs.interned.Found.{found_place, first_is, new_place}
-use Rattle.session_cut.specs.writer.Bytes.{word_bytes, magic_bytes, head_bytes, type_size, types_size, new_word, record_bytes, type_bytes, types_bytes, all_bytes, sought, Wrote, wrote_of, fitting_written, kept_written}
+use Rattle.session_cut.specs.writer.Bytes.{word_bytes, magic_bytes, head_bytes, type_size, types_size, new_word, record_bytes, types_bytes, all_bytes, sought, Wrote, wrote_of, fitting_written, kept_written}
 use Rattle.session_cut.proofs.writer.Stops.{loop_stops}
 use Rattle.session_cut.proofs.writer.Sizes.{head_length, types_length}
 
@@ -157,40 +157,6 @@ module _ (b : TypeTable) (s : List ℕ) where
             sym (place_some r (omega (arith, p, base_some y)))
             ∙ ap some_number (p ∙ ap (λ (v : ℕ). base_of b s start ids v + new_sizes b s start ids v e j) i ∙ ap (λ (c : ℕ). c + new_sizes b s start ids x e j) (sym u) ∙ place_is z e f n g j h (get_or bases x 0) refl (new_sizes b s start ids x e j) refl)
 
-      from_suc : (off x n : ℕ) → x < n → place_from b s start ids bases off x (n - x) ≡ elim (place_at b s start ids bases off x) as (λ z. ℕ) [ zero ↦ place_from b s start ids bases off (x + 1) (n - (x + 1)) | suc p ↦ suc p ]
-      unfolding place_from
-      from_suc off x n l =
-          let z : n - x ≡ suc (n - (x + 1)) = omega (arith, l) in
-          let w : suc x ≡ x + 1 = omega arith in
-          ap (place_from b s start ids bases off x) z ∙ ap (λ (k : ℕ). elim (place_at b s start ids bases off x) as (λ u. ℕ) [ zero ↦ place_from b s start ids bases off k (n - (x + 1)) | suc p ↦ suc p ]) w
-
-      pub from_start : (off n : ℕ) → place_from b s start ids bases off 0 n ≡ place_from b s start ids bases off 0 (n - 0)
-      from_start off n = let z : n ≡ n - 0 = omega arith in ap (place_from b s start ids bases off 0) z
-
-      module _ (off x n : ℕ) (l : x < n) (h : place_from b s start ids bases off 0 n ≡ place_from b s start ids bases off x (n - x)) (r : Option ℕ) (g : r ≡ some_number (place_at b s start ids bases off x)) where
-        abbrev Or : ℕ → ℕ
-        Or v = elim v as (λ z. ℕ) [ zero ↦ place_from b s start ids bases off (x + 1) (n - (x + 1)) | suc p ↦ suc p ]
-
-        or_some : (v p : ℕ) → some_number v ≡ Some p → Some p ≡ some_number (Or v)
-        unfolding some_number
-        or_some zero p z = absurd (none_some z)
-        or_some (suc v) p z = sym z
-
-        or_none : (v : ℕ) → some_number v ≡ None → Or v ≡ place_from b s start ids bases off (x + 1) (n - (x + 1))
-        unfolding some_number
-        or_none zero z = refl
-        or_none (suc v) z = absurd (none_some (sym z))
-
-        pub from_here : (p : ℕ) → r ≡ Some p → n ≡ type_count b → Some p ≡ some_number (place_from b s start ids bases off 0 (type_count b))
-        from_here p z c = or_some (place_at b s start ids bases off x) p (sym g ∙ z) ∙ ap some_number (sym (from_suc off x n l) ∙ sym h ∙ ap (place_from b s start ids bases off 0) c)
-
-        pub from_on : r ≡ None → place_from b s start ids bases off 0 n ≡ place_from b s start ids bases off (x + 1) (n - (x + 1))
-        from_on z = h ∙ from_suc off x n l ∙ or_none (place_at b s start ids bases off x) (sym g ∙ z)
-
-      pub from_none : (off x n : ℕ) → n ≤ x → place_from b s start ids bases off 0 n ≡ place_from b s start ids bases off x (n - x) → n ≡ type_count b → None ≡ some_number (place_from b s start ids bases off 0 (type_count b))
-      unfolding place_from some_number
-      from_none off x n l h c = let z : n - x ≡ 0 = omega (arith, l) in ap some_number (sym (ap (place_from b s start ids bases off 0) (sym c) ∙ h ∙ ap (place_from b s start ids bases off x) z))
-
       module _ (off : ℕ) (m : Bool) (g : m ≡ is_empty (str_at b s off)) where
         pub place_first : m ≡ true → 0 ≡ place_of b s start ids bases off
         unfolding place_of
@@ -238,32 +204,6 @@ module _ (b : TypeTable) (s : List ℕ) where
       pub all_words : (t : List ℕ) (at : Placed) (e n j : ℕ) (p : Placed) (u : List ℕ) → n ≡ words_in b s e → j ≤ n → n ≤ j → put_out p u ≡ put_text t at (whole (record_bytes b s start ids bases e j))
           → put_out p u ≡ put_text t at (whole (record_bytes b s start ids bases e (words_in b s e)))
       all_words t at e n j p u c l g h = let z : j ≡ n = omega (arith, l, g) in h ∙ ap (λ (k : ℕ). put_text t at (whole (record_bytes b s start ids bases e k))) (z ∙ c)
-
-      module _ (t : List ℕ) (at : Placed) (x v : ℕ) (k : v ≡ get_or ids x 0) where
-        pub type_none : v ≡ 0 → put_out at t ≡ put_text t at (whole (type_bytes b s start ids bases x))
-        unfolding type_bytes
-        type_none z = rw (eq-eqb (get_or ids x 0) 0 (sym k ∙ z), type_bytes) (put_empty t at)
-
-        pub type_is : (v ≡ 0 → ⊥) → (e : ℕ) → e ≡ entry_at b start x → (r : Placed) (u : List ℕ) → put_out r u ≡ put_text t at (whole (record_bytes b s start ids bases e (words_in b s e))) → put_out r u ≡ put_text t at (whole (type_bytes b s start ids bases x))
-        unfolding type_bytes
-        type_is z e f r u h = rw (ne_eqb (get_or ids x 0) 0 (λ w. z (k ∙ w)), type_bytes) (h ∙ ap (λ (q : ℕ). put_text t at (whole (record_bytes b s start ids bases q (words_in b s q)))) f)
-
-      pub no_types : (t : List ℕ) (at : Placed) → put_out at t ≡ put_text t at (whole (types_bytes b s start ids bases 0))
-      unfolding types_bytes
-      no_types t at = put_empty t at
-
-      pub more_types : (t : List ℕ) (at : Placed) (x : ℕ) (p : Placed) (u : List ℕ) (r : Placed) (u' : List ℕ) → put_out p u ≡ put_text t at (whole (types_bytes b s start ids bases x)) → put_out r u' ≡ put_text u p (whole (type_bytes b s start ids bases x))
-          → put_out r u' ≡ put_text t at (whole (types_bytes b s start ids bases (x + 1)))
-      unfolding types_bytes
-      more_types t at x p u r u' h g = rw add-one (put_seq t at (types_bytes b s start ids bases x) (type_bytes b s start ids bases x) p u r u' h g)
-
-      pub types_stop : (t : List ℕ) (at : Placed) (n x : ℕ) (u : List ℕ) (c : Refusal) → n ≡ type_count b → x < n → put_out (Err c) u ≡ put_text t at (whole (types_bytes b s start ids bases (x + 1)))
-          → (r : Placed) → IsErrAnd r (λ d. d ≡ c) → put_out r u ≡ put_text t at (whole (types_bytes b s start ids bases (type_count b)))
-      unfolding types_bytes
-      types_stop t at n x u c w l h r k = loop_stops (types_bytes b s start ids bases) (type_bytes b s start ids bases) (λ m. refl) t at c u (x + 1) (type_count b) (omega (arith, w, l)) h r k
-
-      pub all_types : (t : List ℕ) (at : Placed) (n x : ℕ) (p : Placed) (u : List ℕ) → n ≡ type_count b → x ≤ n → n ≤ x → put_out p u ≡ put_text t at (whole (types_bytes b s start ids bases x)) → put_out p u ≡ put_text t at (whole (types_bytes b s start ids bases (type_count b)))
-      all_types t at n x p u c l g h = let z : x ≡ n = omega (arith, l, g) in h ∙ ap (λ (k : ℕ). put_text t at (whole (types_bytes b s start ids bases k))) (z ∙ c)
 
     -- ---- the length of the types
     module _ (x len v : ℕ) (k : v ≡ get_or ids x 0) where

@@ -2,11 +2,10 @@
 use Prim.Native.Nat.{ℕ, ◌+◌, ◌<◌, ◌≤◌}
 use native.Mathlib.Omega.{arith}
 use native.Mathlib.Numerals.{add-one}
-use mathlib.Core.Path.{◌≡◌, refl, sym, ◌∙◌, ap}
+use mathlib.Core.Path.{◌≡◌, refl, ◌∙◌, ap}
 use mathlib.Core.Bool.{Bool, true, false, not}
 use mathlib.Core.List.{List, [], ◌∷◌}
-use lib.ListN.{length, get_or, length-append}
-use borrow.Author.Tests.{eq-eqb, ne_eqb}
+use lib.ListN.{length, length-append}
 use Rattle.std.specs.Prelude.{Err, IsErrAnd}
 use Rattle.spec_bytes.specs.declared.refusal.Refusal.{Refusal}
 use Rattle.spec_bytes.specs.text.Text.{whole}
@@ -14,10 +13,9 @@ use Rattle.spec_bytes.specs.text.Placed.{Placed, put_out, put_text}
 use Rattle.spec_bytes.proofs.text.TextLaws.{put_seq, put_empty}
 use Rattle.spec_type_table.specs.declared.types.TypeTable.{TypeTable}
 use Rattle.spec_type_table.specs.Names.{str_at}
-use Rattle.btf_open_causes.specs.references.Followed.{type_count, entry_at}
 use Rattle.session_cut_marks.specs.roles.Words.{words_in, word_of}
 use Rattle.session_cut_marks.specs.mentioned.Names.{is_new, new_sizes, base_of}
-use Rattle.session_cut_marks.specs.mentioned.Strings.{name_bytes, names_bytes, own_bytes, news_bytes}
+use Rattle.session_cut_marks.specs.mentioned.Strings.{name_bytes, names_bytes}
 use Rattle.session_cut_marks.proofs.mentioned.Laws.{flip_true, flip_false}
 use Rattle.session_cut_marks.proofs.mentioned.Sizes.{name_length}
 use Rattle.std.proofs.Common.{Option}
@@ -83,30 +81,3 @@ module _ (b : TypeTable) (s start ids : List ℕ) where
 
       pub all_new : (n j : ℕ) (p : Placed) (u : List ℕ) → n ≡ words_in b s e → j ≤ n → n ≤ j → put_out p u ≡ put_text t at (whole (names_bytes b s start ids x e j)) → put_out p u ≡ put_text t at (whole (names_bytes b s start ids x e (words_in b s e)))
       all_new n j p u c l g h = let z : j ≡ n = omega (arith, l, g) in h ∙ ap (λ (k : ℕ). put_text t at (whole (names_bytes b s start ids x e k))) (z ∙ c)
-
-  module _ (t : List ℕ) (at : Placed) (x v : ℕ) (k : v ≡ get_or ids x 0) where
-    pub own_none : v ≡ 0 → put_out at t ≡ put_text t at (whole (own_bytes b s start ids x))
-    unfolding own_bytes
-    own_none z = rw (eq-eqb (get_or ids x 0) 0 (sym k ∙ z), own_bytes) (put_empty t at)
-
-    pub own_is : (v ≡ 0 → ⊥) → (y : ℕ) → y ≡ x → (e : ℕ) → e ≡ entry_at b start x → (r : Placed) (u : List ℕ) → put_out r u ≡ put_text t at (whole (names_bytes b s start ids y e (words_in b s e))) → put_out r u ≡ put_text t at (whole (own_bytes b s start ids x))
-    unfolding own_bytes
-    own_is z y i e f r u h = rw (ne_eqb (get_or ids x 0) 0 (λ w. z (k ∙ w)), own_bytes) (h ∙ ap (λ (q : ℕ). put_text t at (whole (names_bytes b s start ids q e (words_in b s e)))) i ∙ ap (λ (q : ℕ). put_text t at (whole (names_bytes b s start ids x q (words_in b s q)))) f)
-
-  module _ (t : List ℕ) (at : Placed) where
-    pub no_news : put_out at t ≡ put_text t at (whole (news_bytes b s start ids 0))
-    unfolding news_bytes
-    no_news = put_empty t at
-
-    pub more_news : (x : ℕ) (p : Placed) (u : List ℕ) (r : Placed) (u' : List ℕ) → put_out p u ≡ put_text t at (whole (news_bytes b s start ids x)) → put_out r u' ≡ put_text u p (whole (own_bytes b s start ids x))
-        → put_out r u' ≡ put_text t at (whole (news_bytes b s start ids (x + 1)))
-    unfolding news_bytes
-    more_news x p u r u' h g = rw add-one (put_seq t at (news_bytes b s start ids x) (own_bytes b s start ids x) p u r u' h g)
-
-    pub news_stop : (n x : ℕ) (u : List ℕ) (c : Refusal) → n ≡ type_count b → x < n → put_out (Err c) u ≡ put_text t at (whole (news_bytes b s start ids (x + 1))) → (r : Placed) → IsErrAnd r (λ d. d ≡ c)
-        → put_out r u ≡ put_text t at (whole (news_bytes b s start ids (type_count b)))
-    unfolding news_bytes
-    news_stop n x u c w l h r k = loop_stops (news_bytes b s start ids) (own_bytes b s start ids) (λ m. refl) t at c u (x + 1) (type_count b) (omega (arith, w, l)) h r k
-
-    pub all_news : (n x : ℕ) (p : Placed) (u : List ℕ) → n ≡ type_count b → x ≤ n → n ≤ x → put_out p u ≡ put_text t at (whole (news_bytes b s start ids x)) → put_out p u ≡ put_text t at (whole (news_bytes b s start ids (type_count b)))
-    all_news n x p u c l g h = let z : x ≡ n = omega (arith, l, g) in h ∙ ap (λ (k : ℕ). put_text t at (whole (news_bytes b s start ids k))) (z ∙ c)

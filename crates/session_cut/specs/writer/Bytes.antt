@@ -7,7 +7,9 @@ use Rattle.spec_type_table.specs.Names.{str_at}
 use Rattle.btf_open_causes.specs.references.Followed.{type_count, entry_at}
 use Rattle.session_cut_marks.specs.roles.Words.{role, words_in, word_of}
 use Rattle.session_cut_marks.specs.mentioned.Names.{is_new, place_of, base_of, bases_to, zero_bases}
-use Rattle.session_cut_marks.specs.mentioned.Strings.{strings_bytes}
+use Rattle.session_cut_marks.specs.mentioned.Strings.{own_bytes, news_bytes, strings_bytes}
+use Rattle.session_cut.specs.declared.writer.source.Part.{Part}
+use Rattle.session_cut.specs.declared.writer.source.Part.TheVariants.{Records, Names}
 use Rattle.session_cut_marks.specs.interned.Slots.{found, slot_place}
 
 -- a word in four bytes, the most significant first where `big`
@@ -54,6 +56,15 @@ module _ (b : TypeTable) (s start ids : List ℕ) where
     unfoldable pub types_bytes : ℕ → List ℕ
     types_bytes zero = []
     types_bytes (suc x) = types_bytes x ++ type_bytes x
+
+    -- what a part has of type x, and of the types before x
+    unfoldable pub kept_bytes : Part → ℕ → List ℕ
+    kept_bytes Records x = type_bytes x
+    kept_bytes Names x = own_bytes b s start ids x
+
+    unfoldable pub part_bytes : Part → ℕ → List ℕ
+    part_bytes Records x = types_bytes x
+    part_bytes Names x = news_bytes b s start ids x
 
   -- the whole section; types and strings: the lengths of the two
   unfoldable pub all_bytes : List ℕ → ℕ → ℕ → List ℕ

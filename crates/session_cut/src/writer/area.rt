@@ -1,11 +1,10 @@
-// The string area of the new section.
+// The names in the string area of the new section.
 ghost use Rattle.std.specs.Prelude.{◌≡◌, ◌<◌, Ok};
 ghost use Rattle.spec_bytes.specs.text.Text.{whole};
 ghost use Rattle.spec_bytes.specs.text.Placed.{put_out, put_text};
-ghost use Rattle.btf_open_causes.specs.references.Followed.{type_count};
 ghost use Rattle.session_cut_marks.specs.roles.Words.{words_in};
 ghost use Rattle.session_cut_marks.specs.mentioned.Names.{base_of};
-ghost use Rattle.session_cut_marks.specs.mentioned.Strings.{names_bytes, own_bytes, news_bytes, strings_bytes};
+ghost use Rattle.session_cut_marks.specs.mentioned.Strings.{names_bytes};
 ghost use Rattle.session_cut_marks.specs.interned.Right.{IsKept};
 ghost use Rattle.session_cut.specs.writer.Bytes.{name_if};
 ghost use Rattle.session_cut_marks.specs.kept.AtKept.{at_kept};
@@ -14,7 +13,6 @@ use crate::writer::names::longer;
 use crate::writer::source::{KeptType, Source};
 use base_bytes::put::put_byte;
 use base_bytes::refusal::Refusal;
-use btf_open_causes::references::count;
 use btf_type_table::table::Table;
 use session_cut_marks::roles::{word_of, words_in};
 
@@ -37,7 +35,8 @@ fn put_name(
 }
 
 impl Source<'_> {
-    fn put_names(&self, t: KeptType, out: &mut [u8], at: usize) -> Result<usize, Refusal>
+    // The new names of type t.
+    pub(crate) fn put_names(&self, t: KeptType, out: &mut [u8], at: usize) -> Result<usize, Refusal>
         requires { IsKept self.now.kept t.x t.e
             × (t.base ≡ at_kept base_of self.now.kept t.x) }
         ensures { put_out result out.new
@@ -52,36 +51,5 @@ impl Source<'_> {
             len = longer(&self.kept.table, t.e, m);
         }
         Ok(p)
-    }
-
-    // The new names of type x.
-    fn put_own(&self, x: u32, out: &mut [u8], at: usize) -> Result<usize, Refusal>
-        requires { x < type_count self.now.kept.table.head }
-        ensures { put_out result out.new ≡ put_text out.old (Ok at) (whole (at_kept own_bytes self.now.kept x)) }
-    {
-        if self.kept.new_id(x) == 0 {
-            return Ok(at);
-        }
-        self.put_names(self.kept_type(x), out, at)
-    }
-
-    fn put_news(&self, out: &mut [u8], at: usize) -> Result<usize, Refusal>
-        ensures { put_out result out.new
-            ≡ put_text out.old (Ok at) (whole (at_kept news_bytes self.now.kept (type_count self.now.kept.table.head))) }
-    {
-        let mut p = at;
-        for x in 0..count(self.kept.table.head) {
-            p = self.put_own(x, out, p)?;
-        }
-        Ok(p)
-    }
-
-    // The leading 0, and the new names.
-    pub(crate) fn put_strings(&self, out: &mut [u8], at: usize) -> Result<usize, Refusal>
-        ensures { put_out result out.new
-            ≡ put_text out.old (Ok at) (whole (at_kept strings_bytes self.now.kept (type_count self.now.kept.table.head))) }
-    {
-        let p = put_byte(out, at, 0)?;
-        self.put_news(out, p)
     }
 }

@@ -114,12 +114,7 @@ impl Source<'_> {
     fn place_from(&self, off: u32) -> Option<u32>
         ensures { result ≡ some_number (at_kept place_from self.now.kept self.now.bases.now off 0 (type_count self.now.kept.table.head)) }
     {
-        for x in 0..count(self.kept.table.head) {
-            if let Some(place) = self.place_at(off, x) {
-                return Some(place);
-            }
-        }
-        None
+        (0..count(self.kept.table.head)).find_map(|x| self.place_at(off, x))
     }
 
     // Where the name that m mentions stands in the new strings: where it is new, at their length so far.

@@ -15,6 +15,13 @@ pub struct Source<'a> {
     ghost based: { bases.now ≡ at_kept all_bases kept },
 }
 
+// The parts of the new section that tell something of each kept type: the records, and the new names.
+#[derive(Clone, Copy)]
+pub enum Part {
+    Records,
+    Names,
+}
+
 // Type x, which is kept: its entry, and the length of the strings before it.
 #[derive(Clone, Copy)]
 pub struct KeptType {

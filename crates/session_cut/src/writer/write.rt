@@ -5,16 +5,17 @@ ghost use Rattle.spec_bytes.specs.text.Placed.{put_out, put_text};
 ghost use Rattle.btf_open_causes.specs.references.Followed.{type_count};
 ghost use Rattle.session_cut_marks.specs.roles.Words.{words_in, word_of};
 ghost use Rattle.session_cut_marks.specs.mentioned.Names.{base_of, place_of};
+ghost use Rattle.session_cut_marks.specs.mentioned.Strings.{strings_bytes};
 ghost use Rattle.session_cut_marks.specs.interned.Right.{IsKept};
 ghost use Rattle.session_cut.specs.writer.Bytes.{word_bytes, magic_bytes, head_bytes, type_size, types_size, new_word, record_bytes};
-ghost use Rattle.session_cut.specs.writer.Bytes.{type_bytes, types_bytes, all_bytes, wrote_of, fitting_written, kept_written};
+ghost use Rattle.session_cut.specs.writer.Bytes.{kept_bytes, part_bytes, all_bytes, wrote_of, fitting_written, kept_written};
 ghost use Rattle.session_cut_marks.specs.kept.AtKept.{at_kept};
 
 use crate::writer::names::longer;
-use crate::writer::source::{KeptType, Mention, Source};
+use crate::writer::source::{KeptType, Mention, Part, Source};
 use base_bytes::element::peek;
 use base_bytes::limit;
-use base_bytes::put::put_bytes;
+use base_bytes::put::{put_byte, put_bytes};
 use base_bytes::refusal::Refusal;
 use btf_open_causes::references::count;
 use session_cut_marks::interned::SLOTS_LEN;
@@ -132,27 +133,42 @@ impl Source<'_> {
         Ok(p)
     }
 
-    fn put_type(&self, x: u32, out: &mut [u8], at: usize) -> Result<usize, Refusal>
+    // What the part has of type x: nothing, where it is not kept.
+    fn put_kept(&self, x: u32, part: Part, out: &mut [u8], at: usize) -> Result<usize, Refusal>
         requires { x < type_count self.now.kept.table.head }
-        ensures { put_out result out.new ≡ put_text out.old (Ok at) (whole (at_kept type_bytes self.now.kept self.now.bases.now x)) }
+        ensures { put_out result out.new
+            ≡ put_text out.old (Ok at) (whole (at_kept kept_bytes self.now.kept self.now.bases.now part x)) }
     {
         if self.kept.new_id(x) == 0 {
             return Ok(at);
         }
-        self.put_record(self.kept_type(x), out, at)
+        let t = self.kept_type(x);
+        match part {
+            Part::Records => self.put_record(t, out, at),
+            Part::Names => self.put_names(t, out, at),
+        }
     }
 
-    // The types that are kept.
-    fn put_types(&self, out: &mut [u8], at: usize) -> Result<usize, Refusal>
+    // What the part has of all types.
+    fn put_part(&self, part: Part, out: &mut [u8], at: usize) -> Result<usize, Refusal>
         ensures { put_out result out.new
             ≡ put_text out.old (Ok at)
-            (whole (at_kept types_bytes self.now.kept self.now.bases.now (type_count self.now.kept.table.head))) }
+            (whole (at_kept part_bytes self.now.kept self.now.bases.now part (type_count self.now.kept.table.head))) }
     {
         let mut p = at;
         for x in 0..count(self.kept.table.head) {
-            p = self.put_type(x, out, p)?;
+            p = self.put_kept(x, part, out, p)?;
         }
         Ok(p)
+    }
+
+    // The leading 0, and the new names.
+    fn put_strings(&self, out: &mut [u8], at: usize) -> Result<usize, Refusal>
+        ensures { put_out result out.new
+            ≡ put_text out.old (Ok at) (whole (at_kept strings_bytes self.now.kept (type_count self.now.kept.table.head))) }
+    {
+        let p = put_byte(out, at, 0)?;
+        self.put_part(Part::Names, out, p)
     }
 
     // Header, types and strings.
@@ -168,7 +184,7 @@ impl Source<'_> {
             sizes.types,
             sizes.strings,
         )?;
-        let q = self.put_types(out, p)?;
+        let q = self.put_part(Part::Records, out, p)?;
         self.put_strings(out, q)
     }
 

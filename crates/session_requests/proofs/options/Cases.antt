@@ -207,12 +207,24 @@ module _ (section : List ℕ) where
       (λ d. list_from_causes (suc n) d.call.session section d.call.work d.call.text (drop (d.count * 12) d.list) ids) (list_listing ids (suc n) _ _ _ _ _)
       ∙ ap (λ (q : CauseCall). go_on n q (λ d. list_from_causes (suc n) d.call.session section d.call.work d.call.text (drop (d.count * 12) d.list) ids)) (type_listing s section w t id l k)
 
--- ---- the nine calls, each as the one call at its option
-module _ (s : Session) (section w t : List ℕ) (r : Ended) (w' t' l' : List ℕ) where
-  same_call : (d : CallWith) → ended_of r w' t' l' ≡ d → call_of r.turn.session (answer_is r.turn.answer) w' t' ≡ d.call
-  unfolding ended_of
-  same_call d e = ap (λ (x : CallWith). x.call) e
+-- ---- the three calls without options
+module _ (s : Session) (section w t : List ℕ) (q : Call) where
+  pub only_type : (id : ℕ) (l : List ℕ) → q ≡ (type_call_with Plain s section w t id l 0).call → q ≡ type_call s section w t id
+  only_type id l e = e ∙ type_plain s section w t id l 0
 
+  pub only_types : (l : List ℕ) → q ≡ (types_call_with Plain s section w t l).call → q ≡ types_call s section w t
+  only_types l e = e ∙ types_plain s section w t l
+
+  pub only_list : (ids l : List ℕ) → q ≡ (list_call_with Plain s section w t ids l).call → q ≡ list_call s section w t ids
+  unfolding list_call_with list_call
+  only_list ids l e = e ∙ list_plain section ids 0 s w t l 0
+
+-- ---- the nine calls, each as the one call at its option
+pub same_call : (r : Ended) (w' t' l' : List ℕ) (d : CallWith) → ended_of r w' t' l' ≡ d → call_of r.turn.session (answer_is r.turn.answer) w' t' ≡ d.call
+unfolding ended_of
+same_call r w' t' l' d e = ap (λ (x : CallWith). x.call) e
+
+module _ (s : Session) (section w t : List ℕ) (r : Ended) (w' t' l' : List ℕ) where
   same_within : (d : CallWith) → ended_of r w' t' l' ≡ d → counted_of r w' t' ≡ to_within d
   unfolding ended_of counted_of
   same_within d e = ap to_within e
@@ -222,14 +234,13 @@ module _ (s : Session) (section w t : List ℕ) (r : Ended) (w' t' l' : List ℕ
   same_causes d e = ap to_causes e
 
   pub call_type : (id : ℕ) (l : List ℕ) → ended_of r w' t' l' ≡ type_call_with Plain s section w t id l 0 → call_of r.turn.session (answer_is r.turn.answer) w' t' ≡ type_call s section w t id
-  call_type id l e = same_call _ e ∙ type_plain s section w t id l 0
+  call_type id l e = only_type s section w t _ id l (same_call r w' t' l' _ e)
 
   pub call_types : (l : List ℕ) → ended_of r w' t' l' ≡ types_call_with Plain s section w t l → call_of r.turn.session (answer_is r.turn.answer) w' t' ≡ types_call s section w t
-  call_types l e = same_call _ e ∙ types_plain s section w t l
+  call_types l e = only_types s section w t _ l (same_call r w' t' l' _ e)
 
   pub call_list : (ids l : List ℕ) → ended_of r w' t' l' ≡ list_call_with Plain s section w t ids l → call_of r.turn.session (answer_is r.turn.answer) w' t' ≡ list_call s section w t ids
-  unfolding list_call_with list_call
-  call_list ids l e = same_call _ e ∙ list_plain section ids 0 s w t l 0
+  call_list ids l e = only_list s section w t _ ids l (same_call r w' t' l' _ e)
 
   pub within_type : (c id : ℕ) (l : List ℕ) → ended_of r w' t' l' ≡ type_call_with (Within c) s section w t id l 0 → counted_of r w' t' ≡ type_call_within c s section w t id 0
   within_type c id l e = same_within _ e ∙ type_under s section w t c id l 0

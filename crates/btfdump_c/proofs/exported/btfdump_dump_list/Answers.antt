@@ -1,13 +1,14 @@
 use Rattle.session_requests.proofs.options.Cases as cases
 use Rattle.spec_c_calls.proofs.Lists as lists
 use native.Mathlib.Omega.{arith}
+use Rattle.btfdump_c.proofs.exported.NumberLaws as numbers
 use Rattle.btfdump_c.proofs.exported.btfdump_dump_list.Goals as goal
 
 pub returns-then-ids-lt4 : goal.returns-then-ids-lt4
 returns-then-ids-lt4 c = lists.list_none _ _ _ _ _ c.if-ids-lt4.true
 
 pub returns-then-record-lt-RECORD_BYTES : goal.returns-then-record-lt-RECORD_BYTES
-returns-then-record-lt-RECORD_BYTES c = lists.list_short _ _ _ _ _ c.if-ids-lt4.false c.if-record-lt-RECORD_BYTES.true
+returns-then-record-lt-RECORD_BYTES c = rw (c.number_or_value.ensures, numbers.closed) (lists.list_short _ _ _ _ _ c.if-ids-lt4.false c.if-record-lt-RECORD_BYTES.true)
 
 pub returns : goal.returns
 returns c = lists.list_is _ _ _ _ _ c.if-record-lt-RECORD_BYTES.false _ c.decode-s.ensures _ _ _ _ _ (omega arith) (omega (arith, c.request-d.type_inv)) (cases.call_list _ _ _ _ _ _ _ _ _ _ c.request-d.ensures) c.listed.ensures

@@ -3,6 +3,7 @@ use Rattle.c_dumper_emit.proofs.entries.Laws as laws
 use Rattle.c_dumper_emit.proofs.entries.Walk as walk
 use Rattle.c_dumper_emit.proofs.emit_type.Listed as listed
 use Rattle.c_dumper_emit.proofs.emit_type.Walk as new
+use Rattle.c_dumper_dependency_order.proofs.order_type.Laws as order
 use native.Mathlib.Omega.{arith}
 use Rattle.c_dumper_emit.proofs.emit_type.+emit_type.Goals as goal
 
@@ -13,28 +14,28 @@ pub emit_composite-emit_entries-requires : goal.emit_composite-emit_entries-requ
 emit_composite-emit_entries-requires t c = (new.to_composite_entries c.args.left t c.decreases, tt)
 
 pub emit_composite-returns : goal.emit_composite-returns
-emit_composite-returns t c = λ n. new.composite_entries _ _ _ _ _ _ _ _ _ _ _ _ c.entries_of-ms.ensures (new.composite_ends _ _ _ _ n _ _ _ _ _ _ _ _ c.requires _ c.is_named-named.ensures _ c.if-named-cont.false _ c.set_emit_state.ensures _ c.inner-within.ensures _ _ _ _ (c.in_ok-a.ensures n) _ (laws.same_lent _ _ _ c.emit_entries.auto.list) _ (c.end_composite.ensures n))
+emit_composite-returns t c = λ n. new.composite_entries _ _ _ _ _ _ _ _ _ _ _ _ c.entries_of-ms.ensures (new.composite_ends _ _ _ _ n _ _ _ _ _ _ _ _ c.requires _ c.is_named-named.ensures _ c.if-named-cont.false _ c.set_emit_state.ensures _ c.inner-within.ensures _ _ _ _ (rw order.members_are at c.in_ok-a.ensures n) _ (laws.same_lent _ _ _ c.emit_entries.auto.list) _ (c.end_composite.ensures n))
 
 pub emit_composite-returns-in_err-a : goal.emit_composite-returns-in_err-a
-emit_composite-returns-in_err-a t c = λ n. new.composite_entries _ _ _ _ _ _ _ _ _ _ _ _ c.entries_of-ms.ensures (new.composite_ends _ _ _ _ n _ _ _ _ _ _ _ _ c.requires _ c.is_named-named.ensures _ c.if-named-cont.false _ c.set_emit_state.ensures _ c.inner-within.ensures _ _ _ _ (c.in_err-a.ensures n) _ (laws.same_lent _ _ _ c.emit_entries.auto.list) _ (laws.ended n _ _ _ _ _ _ c.from_residual.ensures.1))
+emit_composite-returns-in_err-a t c = λ n. new.composite_entries _ _ _ _ _ _ _ _ _ _ _ _ c.entries_of-ms.ensures (new.composite_ends _ _ _ _ n _ _ _ _ _ _ _ _ c.requires _ c.is_named-named.ensures _ c.if-named-cont.false _ c.set_emit_state.ensures _ c.inner-within.ensures _ _ _ _ (rw order.members_are at c.in_err-a.ensures n) _ (laws.same_lent _ _ _ c.emit_entries.auto.list) _ (laws.ended n _ _ _ _ _ _ c.from_residual.ensures.1))
 
 pub emit_entries-loop-k-init : goal.emit_entries-loop-k-init
 emit_entries-loop-k-init t c = (refl, λ n. walk.rest_start _ _ _ _ _ _ _ _ n _ _ _ _)
 
 pub emit_entries-loop-k-preserved-then-is_done : goal.emit_entries-loop-k-preserved-then-is_done
-emit_entries-loop-k-preserved-then-is_done t c = (c.loop-k.invariant.0, λ n. walk.rest_skip _ _ _ _ _ _ _ _ n _ _ _ _ _ _ _ _ _ (c.loop-k.invariant.1 n) _ c.held_id-t.ensures _ c.is_done.ensures c.if-is_done.true (omega arith))
+emit_entries-loop-k-preserved-then-is_done t c = (c.loop-k.invariant.0, λ n. walk.rest_skip _ _ _ _ _ _ _ _ n _ _ _ _ _ _ _ _ _ (c.loop-k.invariant.1 n) _ c.entry_type-t.ensures _ c.is_done.ensures c.if-is_done.true (omega arith))
 
 pub emit_entries-emit_type-requires : goal.emit_entries-emit_type-requires
 emit_entries-emit_type-requires t c = (new.to_loop_type c.args.left t c.decreases, tt)
 
 pub emit_entries-loop-k-preserved : goal.emit_entries-loop-k-preserved
-emit_entries-loop-k-preserved t c = (c.emit_type.auto.list ∙ c.loop-k.invariant.0, λ n. walk.rest_turn _ _ _ _ _ _ _ _ n _ _ _ _ _ _ _ _ _ (c.loop-k.invariant.1 n) _ c.held_id-t.ensures _ (laws.same_lent _ _ _ c.loop-k.invariant.0) _ _ _ _ (c.in_ok-a.ensures n) (omega arith))
+emit_entries-loop-k-preserved t c = (c.emit_type.auto.list ∙ c.loop-k.invariant.0, λ n. walk.rest_turn _ _ _ _ _ _ _ _ n _ _ _ _ _ _ _ _ _ (c.loop-k.invariant.1 n) _ c.entry_type-t.ensures _ (laws.same_lent _ _ _ c.loop-k.invariant.0) _ _ _ _ (c.in_ok-a.ensures n) (omega arith))
 
 pub emit_entries-returns : goal.emit_entries-returns
 emit_entries-returns t c = λ n. listed.entries_end _ _ _ _ _ _ _ _ _ n _ _ _ _ _ _ _ _ (c.loop-k.invariant.1 n) (omega arith)
 
 pub emit_entries-returns-in_err-a : goal.emit_entries-returns-in_err-a
-emit_entries-returns-in_err-a t c = λ n. listed.entries_halt _ _ _ _ _ _ _ _ _ n _ _ _ _ _ _ _ _ (walk.rest_turn _ _ _ _ _ _ _ _ n _ _ _ _ _ _ _ _ _ (c.loop-k.invariant.1 n) _ c.held_id-t.ensures _ (laws.same_lent _ _ _ c.loop-k.invariant.0) _ _ _ _ (c.in_err-a.ensures n) (omega arith)) _ c.from_residual.ensures.1
+emit_entries-returns-in_err-a t c = λ n. listed.entries_halt _ _ _ _ _ _ _ _ _ n _ _ _ _ _ _ _ _ (walk.rest_turn _ _ _ _ _ _ _ _ n _ _ _ _ _ _ _ _ _ (c.loop-k.invariant.1 n) _ c.entry_type-t.ensures _ (laws.same_lent _ _ _ c.loop-k.invariant.0) _ _ _ _ (c.in_err-a.ensures n) (omega arith)) _ c.from_residual.ensures.1
 
 pub emit_new-emit_leaf-requires : goal.emit_new-emit_leaf-requires
 emit_new-emit_leaf-requires t c = c.requires
@@ -70,7 +71,7 @@ pub emit_new-returns-in_err-a-in-Typedef : goal.emit_new-returns-in_err-a-in-Typ
 emit_new-returns-in_err-a-in-Typedef t c = λ n. new.new_typedef _ _ _ _ n _ _ _ _ _ _ _ _ c.requires _ c.node_of.ensures _ _ c.in-Typedef.is _ c.set_emit_state.ensures _ _ _ _ (c.in_err-a-in-Typedef.ensures n) _ (laws.same_lent _ _ _ c.emit_type.auto.list) (laws.ended n _ _ _ _ _ _ c.from_residual.ensures.1)
 
 pub emit_new-returns-in_ok-a-in-Proto : goal.emit_new-returns-in_ok-a-in-Proto
-emit_new-returns-in_ok-a-in-Proto t c = λ n. new.new_proto _ _ _ _ n _ _ _ _ _ _ _ _ c.requires _ c.node_of.ensures _ _ _ c.in-Proto.is _ _ _ _ _ (laws.same_lent _ _ _ c.emit_type-in-Proto.auto.list) (c.in_ok-a-in-Proto.ensures n) (c.emit_entries.ensures n)
+emit_new-returns-in_ok-a-in-Proto t c = λ n. new.new_proto _ _ _ _ n _ _ _ _ _ _ _ _ c.requires _ c.node_of.ensures _ _ _ c.in-Proto.is _ _ _ _ _ (laws.same_lent _ _ _ c.emit_type-in-Proto.auto.list) (c.in_ok-a-in-Proto.ensures n) (rw order.params_are at c.emit_entries.ensures n)
 
 pub emit_new-returns-in_err-a-in-Proto : goal.emit_new-returns-in_err-a-in-Proto
 emit_new-returns-in_err-a-in-Proto t c = λ n. new.new_proto _ _ _ _ n _ _ _ _ _ _ _ _ c.requires _ c.node_of.ensures _ _ _ c.in-Proto.is _ _ _ _ _ (laws.same_lent _ _ _ c.emit_type-in-Proto.auto.list) (c.in_err-a-in-Proto.ensures n) (laws.ended n _ _ _ _ _ _ c.from_residual-in_err-a-in-Proto.ensures.1)

@@ -3,7 +3,7 @@ use Rattle.c_dumper_emit.specs.entries.Noted.{lent_list}
 use Rattle.std.specs.Prelude.{Ok}
 use lib.ListN.{length}
 use mathlib.Core.Path.{◌≡◌}
-use Rattle.c_dumper_emit.specs.emit_type.Ids.{held_id}
+use Rattle.c_dumper_dependency_order.specs.entries.Entries.{entry_type}
 use Rattle.c_dumper_emit.proofs.entries.Walk as walk
 use Prim.Native.Nat.{ℕ, ◌+◌, ◌*◌}
 use Rattle.c_dumper_emit.proofs.emit_type.+emit_type.Given as goal
@@ -21,4 +21,4 @@ abbrev pub decreases-emit_type : goal.decreases-emit_type
 decreases-emit_type l = 4 * l.left
 
 abbrev pub invariant-emit_entries-loop-k : goal.invariant-emit_entries-loop-k
-invariant-emit_entries-loop-k l = (length l.list ≡ length l.initial.list) × ((n : ℕ) → walk.Rest l.b.head l.b.section.now (lent_list l.q.lists l.initial.list) (entry_in l.q.req l.q.turn l.q.leads.now) l.initial.work l.left l.cont (held_id l.held l.b.head l.b.section.now l.es) n l.initial.a l.initial.text l.initial.list l.es.vlen (Ok l.a) l.text l.work l.list l.k)
+invariant-emit_entries-loop-k l = (length l.list ≡ length l.initial.list) × ((n : ℕ) → walk.Rest l.b.head l.b.section.now (lent_list l.q.lists l.initial.list) (entry_in l.q.req l.q.turn l.q.leads.now) l.initial.work l.left l.cont (entry_type l.b.head l.b.section.now l.each l.es) n l.initial.a l.initial.text l.initial.list l.es.vlen (Ok l.a) l.text l.work l.list l.k)

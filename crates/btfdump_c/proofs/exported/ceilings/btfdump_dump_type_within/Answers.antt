@@ -1,9 +1,10 @@
 use Rattle.session_requests.proofs.options.Cases as cases
+use Rattle.btfdump_c.proofs.exported.NumberLaws as numbers
 use Rattle.btfdump_c.proofs.exported.CeilingLaws as laws
 use Rattle.btfdump_c.proofs.exported.ceilings.btfdump_dump_type_within.Goals as goal
 
 pub returns-then-record-lt-RECORD_BYTES : goal.returns-then-record-lt-RECORD_BYTES
-returns-then-record-lt-RECORD_BYTES c = laws.type_short _ _ _ _ _ c.if-record-lt-RECORD_BYTES.true _
+returns-then-record-lt-RECORD_BYTES c = rw (c.number_or_value.ensures, numbers.closed) (laws.type_short _ _ _ _ _ c.if-record-lt-RECORD_BYTES.true _)
 
 pub returns : goal.returns
 returns c = laws.type_is _ _ _ _ _ c.if-record-lt-RECORD_BYTES.false _ c.decode-s.ensures _ _ _ _ _ _ (cases.within_type _ _ _ _ _ _ _ _ _ _ _ c.request-d.ensures) c.answered.ensures
