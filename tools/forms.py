@@ -62,6 +62,44 @@ def tested_indexes(text):
     return words(text, r"if (\w+) < (\w+)\.len\(\)[^{\n]*\{\n[^\n]*\b\2\[\1\]")
 
 
+def clauses(text):
+    """(name, requires clause) of each function that has one."""
+    for m in re.finditer(r"\bfn (\w+)[^{]*?\brequires(?: \w+)? \{", text):
+        at, depth = m.end(), 1
+        while depth:
+            depth += {"{": 1, "}": -1}.get(text[at], 0)
+            at += 1
+        yield m.group(1), text[m.end():at - 1]
+
+
+def facts(files):
+    """Facts that three functions or more ask of their callers, however they name what they speak of."""
+    asked = {}
+    for path in files:
+        text = path.read_text()
+        for name, clause in clauses(text):
+            for fact in re.split(r"\)\s*×\s*\(?|\s×\s", " ".join(clause.split())):
+                shape = re.sub(r"\b[a-z]\w*(?:\.\w+)*\.(?:now|old)\b", "_", fact.strip(" ()"))
+                shape = re.sub(r"\b(?:self|[a-z]|id|at|len|left)(?:\.\w+)*\b", "_", shape)
+                asked.setdefault(shape, []).append((path, name))
+    return {shape: places for shape, places in asked.items() if len(places) >= 3}
+
+
+def shapes(files):
+    """Functions of four lines and more whose bodies are the same but for names and numbers."""
+    found = {}
+    for path in files:
+        text = path.read_text()
+        for m in re.finditer(r"^( *)(?:pub(?:\([a-z]+\))? )?fn (\w+).*?^\1\{\n(.*?)^\1\}", text, re.S | re.M):
+            body = re.sub(r"//[^\n]*", "", m.group(3))
+            if body.count("\n") < 4:
+                continue
+            names = {}
+            shape = re.sub(r"\b\w+\b", lambda w: names.setdefault(w.group(), str(len(names))), " ".join(body.split()))
+            found.setdefault(shape, []).append((path, text.count("\n", 0, m.start()) + 1))
+    return {shape: places for shape, places in found.items() if len(places) >= 2}
+
+
 FORMS = [
     ("1: structs of a flag and a value that it speaks of", lambda t: structs(t, flag_and_value)),
     ("1: constants of kinds used", lambda t: words(t, r"\bkind::[A-Z][A-Z_0-9]*\b")),
@@ -89,6 +127,11 @@ def main():
         if "--list" in sys.argv:
             for path, line in places:
                 print(f"        {path.relative_to(root)}:{line}")
+    for name, groups in (("5: facts that three functions or more ask", facts(files)), ("2: bodies of one shape", shapes(files))):
+        print(f"{len(groups):5} in {sum(map(len, groups.values())):3} functions  {name}")
+        if "--list" in sys.argv:
+            for shape, places in groups.items():
+                print(f"        {shape[:120]}: " + ", ".join(f"{p.relative_to(root)}:{what}" for p, what in places))
 
 
 if __name__ == "__main__":

@@ -20,11 +20,9 @@ pub const MOST_CALLS: u32 = 512;
 // Bytes of text.
 pub const MOST_TEXT: usize = 1073741824;
 
-// The largest number of 32 bits, also as a number of 64 bits and as a length; and the first number past it.
+// The largest number of 32 bits, also as a number of 64 bits; and the first number past it.
 pub const LARGEST: u32 = u32::MAX;
 
 pub const LARGEST_64: u64 = LARGEST as u64;
-
-pub const LARGEST_LEN: usize = LARGEST as usize;
 
 pub const TWO_TO_32: u64 = LARGEST_64 + 1;

@@ -1,43 +1,18 @@
-// Numbers that have a sign, from their bits and in decimal.
-ghost use Rattle.std.specs.Prelude.{◌≡◌, nat_abs, Ok};
+// Numbers that have a sign, in decimal.
+ghost use Rattle.std.specs.Prelude.{◌≡◌, Ok};
 ghost use Rattle.spec_bytes.specs.text.Text.{ascii, whole};
 ghost use Rattle.spec_bytes.specs.text.Placed.{put_out, put_text};
-ghost use Rattle.spec_bytes.specs.signed.Signed.{twos, signed, signed_ll};
+ghost use Rattle.spec_bytes.specs.signed.Signed.{signed, signed_ll};
 
 use crate::table::{Word, put_word};
-use base_bytes::put::{put_byte, put_bytes, put_decimal};
+use base_bytes::put::{put_bytes, put_decimal, put_integer};
 use base_bytes::refusal::Refusal;
-
-// The number of 32 bits in two's complement.
-pub fn as_i32(v: u32) -> i32
-    ensures { result ≡ twos 2147483648 v }
-{
-    v.cast_signed()
-}
-
-// The number of 64 bits in two's complement.
-pub fn as_i64(v: u64) -> i64
-    ensures { result ≡ twos 9223372036854775808 v }
-{
-    v.cast_signed()
-}
-
-// Writes the sign and the magnitude of v.
-fn put_signed(text: &mut [u8], at: usize, v: i64) -> Result<usize, Refusal>
-    ensures { put_out result text.new ≡ put_text text.old (Ok at) (whole (signed v)) }
-{
-    if v < 0 {
-        let a = put_byte(text, at, b'-')?;
-        return put_decimal(text, a, v.unsigned_abs());
-    }
-    put_decimal(text, at, v.unsigned_abs())
-}
 
 // Writes v.
 pub fn put_i32(text: &mut [u8], at: usize, v: i32) -> Result<usize, Refusal>
     ensures { put_out result text.new ≡ put_text text.old (Ok at) (whole (signed v)) }
 {
-    put_signed(text, at, v as i64)
+    put_integer(text, at, v)
 }
 
 // The least number as <stdint.h> spells INT64_MIN: less 1 than the one above it.
@@ -57,6 +32,6 @@ pub fn put_i64(text: &mut [u8], at: usize, v: i64) -> Result<usize, Refusal>
     if v == -9223372036854775808 {
         return put_least(text, at);
     }
-    let a = put_signed(text, at, v)?;
+    let a = put_integer(text, at, v)?;
     put_word(text, a, Word::Ll)
 }

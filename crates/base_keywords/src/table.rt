@@ -35,36 +35,49 @@ pub enum Word {
     Dots,
 }
 
+// Where a word starts in the table, and its length.
+#[derive(Clone, Copy)]
+struct Place {
+    start: usize,
+    len: usize,
+    ghost sized: { (2 ≤ len) × (len ≤ 16) },
+    ghost inside: { start + len ≤ 128 },
+}
+
+fn part(start: usize, len: usize) -> Place
+    requires { (2 ≤ len) × (len ≤ 16) × (start + len ≤ 128) }
+    ensures { (result.start ≡ start) × (result.len ≡ len) }
+{
+    Place { start, len }
+}
+
 impl Word {
-    // Where the word starts in the table, and its length.
-    fn place(self) -> (usize, usize)
-        ensures word { part table result.0 result.1 ≡ spelled self }
-        ensures size { (2 ≤ result.1) × (result.1 ≤ 16) }
-        ensures inside { result.0 + result.1 ≤ 128 }
+    fn place(self) -> Place
+        ensures { part table result.start result.len ≡ spelled self }
     {
         match self {
-            Word::Struct => (0, 6),
-            Word::Union => (9, 5),
-            Word::StructForUnion => (0, 16),
-            Word::Enum => (16, 4),
-            Word::Typedef => (20, 7),
-            Word::Void => (27, 4),
-            Word::Volatile => (31, 8),
-            Word::Const => (39, 5),
-            Word::Restrict => (44, 8),
-            Word::Long => (52, 4),
-            Word::Int => (56, 3),
-            Word::Short => (59, 5),
-            Word::Char => (64, 4),
-            Word::AttributeStart => (68, 16),
-            Word::Packed => (84, 6),
-            Word::DeclTag => (90, 12),
-            Word::TypeTag => (102, 12),
-            Word::Ull => (114, 3),
-            Word::Ll => (115, 2),
-            Word::MinusOne => (117, 5),
-            Word::Underscores => (122, 3),
-            Word::Dots => (125, 3),
+            Word::Struct => part(0, 6),
+            Word::Union => part(9, 5),
+            Word::StructForUnion => part(0, 16),
+            Word::Enum => part(16, 4),
+            Word::Typedef => part(20, 7),
+            Word::Void => part(27, 4),
+            Word::Volatile => part(31, 8),
+            Word::Const => part(39, 5),
+            Word::Restrict => part(44, 8),
+            Word::Long => part(52, 4),
+            Word::Int => part(56, 3),
+            Word::Short => part(59, 5),
+            Word::Char => part(64, 4),
+            Word::AttributeStart => part(68, 16),
+            Word::Packed => part(84, 6),
+            Word::DeclTag => part(90, 12),
+            Word::TypeTag => part(102, 12),
+            Word::Ull => part(114, 3),
+            Word::Ll => part(115, 2),
+            Word::MinusOne => part(117, 5),
+            Word::Underscores => part(122, 3),
+            Word::Dots => part(125, 3),
         }
     }
 }
@@ -98,62 +111,51 @@ fn copy_word(text: &mut [u8], at: usize, src: &[u8], start: usize, n: usize)
     copy::<8>(text, at + (n - 8), src, start + (n - 8))
 }
 
-// Writes n bytes of src.
-fn put_part(
-    text: &mut [u8],
-    at: usize,
-    src: &[u8],
-    start: usize,
-    n: usize,
-) -> Result<usize, Refusal>
-    requires { (2 ≤ n) × (n ≤ 16) × (start + n ≤ length src.now) }
-    ensures { put_out result text.new ≡ put_text text.old (Ok at) (whole (part src.now start n)) }
+// Writes a part of src. (The room is tested once, here: `copy` moves bytes by place.)
+fn put_part(text: &mut [u8], at: usize, src: &[u8], p: Place) -> Result<usize, Refusal>
+    requires { p.start + p.len ≤ length src.now }
+    ensures { put_out result text.new ≡ put_text text.old (Ok at) (whole (part src.now p.start p.len)) }
 {
-    if text.len().saturating_sub(at) < n {
+    if text.len().saturating_sub(at) < p.len {
         return Err(Refusal::TextFull);
     }
-    copy_word(text, at, src, start, n);
-    Ok(at + n)
+    copy_word(text, at, src, p.start, p.len);
+    Ok(at + p.len)
 }
 
 // The table. The compiler does not write this function out at each call, so that the table stands once in the machine's code too.
 #[inline(never)]
-fn put_fixed(text: &mut [u8], at: usize, start: usize, n: usize) -> Result<usize, Refusal>
-    requires { (2 ≤ n) × (n ≤ 16) × (start + n ≤ 128) }
-    ensures { put_out result text.new ≡ put_text text.old (Ok at) (whole (part table start n)) }
+fn put_fixed(text: &mut [u8], at: usize, p: Place) -> Result<usize, Refusal>
+    ensures { put_out result text.new ≡ put_text text.old (Ok at) (whole (part table p.start p.len)) }
 {
     put_part(
         text,
         at,
         b"struct /*union*/enumtypedefvoidvolatileconstrestrictlongintshortchar __attribute__((packedbtf_decl_tagbtf_type_tagULL - 1)___...",
-        start,
-        n,
+        p,
     )
 }
 
 pub fn put_word(text: &mut [u8], at: usize, word: Word) -> Result<usize, Refusal>
     ensures { put_out result text.new ≡ put_text text.old (Ok at) (whole (spelled word)) }
 {
-    let (start, n) = word.place();
-    put_fixed(text, at, start, n)
+    put_fixed(text, at, word.place())
 }
 
-// Whether a run is n bytes of the table: these are put beside it and compared. A run of another length needs no copy.
-fn is_fixed(run: &[u8], start: usize, n: usize) -> bool
-    requires { (2 ≤ n) × (n ≤ 16) × (start + n ≤ 128) }
-    ensures { result ≡ same_bytes run.now (part table start n) }
+// Whether a run is a part of the table: that is put beside it and compared. A run of another length needs no copy.
+fn is_fixed(run: &[u8], p: Place) -> bool
+    ensures { result ≡ same_bytes run.now (part table p.start p.len) }
 {
-    if run.len() != n {
+    if run.len() != p.len {
         return false;
     }
     let mut word: [u8; 16] = [0; 16];
-    let _ = put_fixed(&mut word, 0, start, n);
-    run == &word[..n]
+    let _ = put_fixed(&mut word, 0, p);
+    run == &word[..p.len]
 }
 
 pub fn is_word(run: &[u8], word: Word) -> bool
     ensures { result ≡ same_bytes run.now (spelled word) }
 {
-    let (start, n) = word.place();
-    is_fixed(run, start, n)
+    is_fixed(run, word.place())
 }

@@ -1,9 +1,9 @@
 // get_align_of with the alignments that are remembered in the work.
-ghost use Rattle.std.specs.Prelude.{◌≡◌, ◌<◌, ◌-◌};
+ghost use Rattle.std.specs.Prelude.{◌≡◌, ◌<◌, ◌-◌, Ok};
 ghost use Rattle.spec_type_table.specs.Table.{btf_of};
 ghost use Rattle.spec_type_table.specs.Nodes.{member_ids};
 ghost use Rattle.spec_c_dumper.specs.alignment_once.Once.{alone};
-ghost use Rattle.btf_layout.specs.remembered.Words.{taken_by, step_at, once_of, once_with, anew_with, ids_with, height_of, kept_with};
+ghost use Rattle.btf_layout.specs.remembered.Words.{taken_by, step_at, once_of, once_with, anew_with, ids_with, kept_with};
 
 use crate::remembered::{Seen, recall, remember};
 use base_bytes::refusal::Refusal;
@@ -36,7 +36,7 @@ fn step_of(b: &Table, t: BtfType) -> Step
     match Kind::of(t.info) {
         Kind::Int => Step::Own(b.head.ptr_sz.min(b.int_bits(t).div_ceil(8))),
         Kind::Ptr => Step::Own(b.head.ptr_sz),
-        Kind::Array => Step::Through(b.array_type(t)),
+        Kind::Array => Step::Through(b.extra_word(t)),
         Kind::Struct | Kind::Union => Step::Members(entries_of(t)),
         Kind::Enum | Kind::Float | Kind::Enum64 => Step::Own(b.head.ptr_sz.min(t.type_id)),
         Kind::Typedef | Kind::Volatile | Kind::Const | Kind::Restrict | Kind::TypeTag =>
@@ -47,27 +47,21 @@ fn step_of(b: &Table, t: BtfType) -> Step
     }
 }
 
-// What was found of a type is remembered; of a refused one nothing is.
-fn keep_once(
-    b: TypeTable,
-    work: &mut [u8],
-    id: u32,
-    r: Result<Seen, Refusal>,
-    members: u32,
-) -> Result<Seen, Refusal>
-    requires { height_of r < 4294967295 }
-    ensures { once_of result work.new ≡ kept_with b.types id members r work.old }
+// What was found of a type is remembered, one call higher than what it asked.
+fn keep_once(b: TypeTable, work: &mut [u8], id: u32, s: Seen, members: u32) -> Seen
+    requires { s.height < 4294967295 }
+    ensures { once_of (Ok result) work.new ≡ kept_with b.types id members (Ok s) work.old }
 {
-    let s = r?;
     let up = Seen {
         align: s.align,
         height: s.height + 1,
     };
     remember(b, work, id, up, members);
-    Ok(up)
+    up
 }
 
-// A type of which nothing is remembered: of the calls that may be open this is one.
+// A type of which nothing is remembered: of the calls that may be open this is one. Of a refused type nothing is remembered. (`left` counts
+// this call too: so every height below it fits a u32 with one more.)
 #[cycle(align_of)]
 fn align_anew(b: &Table, work: &mut [u8], id: u32, left: u32) -> Result<Seen, Refusal>
     ensures { once_of result work.new
@@ -77,19 +71,16 @@ fn align_anew(b: &Table, work: &mut [u8], id: u32, left: u32) -> Result<Seen, Re
     let t = b.type_by_id(work, id);
     match step_of(b, t) {
         Step::Own(align) => {
-            let own = Seen {
-                align: align,
-                height: 0,
-            };
-            keep_once(b.head, work, id, Ok(own), 0)
+            let own = Seen { align, height: 0 };
+            Ok(keep_once(b.head, work, id, own, 0))
         }
         Step::Through(x) => {
-            let r = get_align_of(b, work, x, below);
-            keep_once(b.head, work, id, r, 0)
+            let s = get_align_of(b, work, x, below)?;
+            Ok(keep_once(b.head, work, id, s, 0))
         }
         Step::Members(e) => {
-            let r = members_once(b, work, e, below);
-            keep_once(b.head, work, id, r, e.vlen)
+            let s = members_once(b, work, e, below)?;
+            Ok(keep_once(b.head, work, id, s, e.vlen))
         }
     }
 }
@@ -122,7 +113,7 @@ fn members_once(b: &Table, work: &mut [u8], members: Entries, left: u32) -> Resu
         height: 0,
     };
     for k in 0..members.vlen {
-        let id = b.word(member_place(members, k) + 4);
+        let id = b.word(member_place(members.at, k) + 4);
         seen = seen.widest(get_align_of(b, work, id, left)?);
     }
     Ok(seen)

@@ -9,6 +9,7 @@ use crate::align_of::get_align_of;
 use base_bytes::limit;
 use base_bytes::refusal::Refusal;
 use btf_type_table::kind::{is_struct, vlen_of};
+use btf_type_table::node::TypeRef;
 use btf_type_table::table::Table;
 use spec_type_table::{BtfMember, BtfType};
 
@@ -32,14 +33,14 @@ pub fn gap_align(b: &Table, work: &mut [u8], id: u32, packed: bool) -> Result<u3
 }
 
 // A union's alignment; a struct's is asked by the packed test.
-pub fn union_align(b: &Table, work: &mut [u8], id: u32, t: BtfType) -> Result<u32, Refusal>
+pub fn union_align(b: &Table, work: &mut [u8], x: TypeRef) -> Result<u32, Refusal>
     ensures { ask_in result work.new
-        ≡ union_in b.now.head.types (btf_of b.now.head b.now.section.now work.old) (eqb (kind_of t.info) 4) id work.old }
+        ≡ union_in b.now.head.types (btf_of b.now.head b.now.section.now work.old) (eqb (kind_of x.t.info) 4) x.id work.old }
 {
-    if is_struct(t) {
+    if is_struct(x.t) {
         return Ok(1);
     }
-    alignment(b, work, id)
+    alignment(b, work, x.id)
 }
 
 // Whether a plain member is off its alignment; one that has none has no answer.
@@ -82,17 +83,17 @@ fn members_packed(b: &Table, work: &mut [u8], t: BtfType) -> Result<bool, Refusa
 }
 
 // The packed test: the struct's own alignment comes first, and its members' are remembered by then.
-pub fn is_packed(b: &Table, work: &mut [u8], id: u32, t: BtfType) -> Result<bool, Refusal>
+pub fn is_packed(b: &Table, work: &mut [u8], x: TypeRef) -> Result<bool, Refusal>
     ensures { ask_in result work.new
-        ≡ packed_at b.now.head.types (btf_of b.now.head b.now.section.now work.old) (eqb (kind_of t.info) 4) id t.type_id
-        (members_of b.now.head b.now.section.now t) work.old }
+        ≡ packed_at b.now.head.types (btf_of b.now.head b.now.section.now work.old) (eqb (kind_of x.t.info) 4) x.id x.t.type_id
+        (members_of b.now.head b.now.section.now x.t) work.old }
 {
-    if !is_struct(t) {
+    if !is_struct(x.t) {
         return Ok(false);
     }
-    let a = alignment(b, work, id)?;
-    if t.type_id.is_multiple_of(a) {
-        return members_packed(b, work, t);
+    let a = alignment(b, work, x.id)?;
+    if x.t.type_id.is_multiple_of(a) {
+        return members_packed(b, work, x.t);
     }
     Ok(true)
 }

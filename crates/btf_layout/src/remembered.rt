@@ -1,11 +1,18 @@
-// Alignments that are remembered in the work. Word 15 of a type is 0, or 16 times the height of the calls of get_align_of and the
-// alignment; word 2 of void counts the visits.
+// Alignments that are remembered in the work. Word 15 of a type has the alignment in its low four bits and the height of the calls of
+// get_align_of above them; word 2 of void counts the visits.
 ghost use Rattle.std.specs.Prelude.{◌≡◌};
-ghost use Rattle.btf_layout.specs.remembered.Words.{seen_is, known_of, widest_code, decoded, coded, seen_word, with_visits, remembered};
+ghost use Rattle.btf_layout.specs.remembered.Words.{seen_is, known_of, widest_code, decoded, coded, some_word};
+ghost use Rattle.btf_layout.specs.remembered.Words.{seen_word, with_visits, remembered};
 
 use btf_type_table::cell;
 use btf_type_table::cell::{get_field, put_field};
 use spec_type_table::TypeTable;
+
+// How many alignments a word tells apart.
+const ALIGNMENTS: u32 = 16;
+
+// The largest height that a word has room for.
+const MOST_HEIGHT: u32 = 268435454;
 
 // What is remembered of a type.
 #[derive(Clone, Copy, PartialEq, Eq)]
@@ -25,6 +32,34 @@ impl Seen {
             height: self.height.max(other.height),
         }
     }
+
+    // What the word of a type says; 0 is the word of a type of which nothing is remembered.
+    #[inline]
+    fn from_word(v: u32) -> Option<Seen>
+        ensures { known_of result ≡ decoded v }
+    {
+        if v == 0 {
+            return None;
+        }
+        Some(Seen {
+            align: v % ALIGNMENTS,
+            height: v / ALIGNMENTS,
+        })
+    }
+
+    // The word that says it; none where it does not fit, or where it would be 0.
+    fn word(self) -> Option<u32>
+        ensures { result ≡ some_word (coded (seen_is self)) }
+    {
+        if self.align >= ALIGNMENTS || self.height > MOST_HEIGHT {
+            return None;
+        }
+        let v = self.height * ALIGNMENTS + self.align;
+        if v == 0 {
+            return None;
+        }
+        Some(v)
+    }
 }
 
 // What is remembered of a type, if anything.
@@ -35,24 +70,7 @@ pub fn recall(b: TypeTable, work: &[u8], id: u32) -> Option<Seen>
     if b.types <= id {
         return None;
     }
-    let v = get_field(work, id, cell::ALIGNMENT);
-    if v == 0 {
-        return None;
-    }
-    Some(Seen {
-        align: v % 16,
-        height: v / 16,
-    })
-}
-
-// The word of what is seen; 0, the word of a type of which nothing is remembered, where it does not fit.
-fn coded(s: Seen) -> u32
-    ensures { result ≡ coded (seen_is s) }
-{
-    if 15 < s.align || 268435454 < s.height {
-        return 0;
-    }
-    s.height * 16 + s.align
+    Seen::from_word(get_field(work, id, cell::ALIGNMENT))
 }
 
 // The visits of a type and of its members; the count stays at the largest number.
@@ -65,14 +83,15 @@ fn count_visits(work: &mut [u8], members: u32)
     put_field(work, 0, cell::VISITS, visits);
 }
 
-// A type is remembered, with the visits of it and of its members; one whose word is 0 is not.
+// A type is remembered, with the visits of it and of its members; one that no word says is not.
 pub fn remember(b: TypeTable, work: &mut [u8], id: u32, s: Seen, members: u32)
     ensures { work.new ≡ remembered b.types id (coded (seen_is s)) members work.old }
 {
-    let v = coded(s);
-    if v == 0 || b.types <= id {
+    let Some(v) = s.word() else {
         return;
+    };
+    if id < b.types {
+        count_visits(work, members);
+        put_field(work, id, cell::ALIGNMENT, v);
     }
-    count_visits(work, members);
-    put_field(work, id, cell::ALIGNMENT, v);
 }

@@ -18,7 +18,7 @@ pub fn get_size_of(b: &Table, work: &[u8], id: u32, left: u32) -> Result<u32, Re
             Kind::Int => return Ok(b.int_bits(t).div_ceil(8)),
             Kind::Ptr => return Ok(b.head.ptr_sz),
             Kind::Array => {
-                let element = get_size_of(b, work, b.array_type(t), left - passed - 1)?;
+                let element = get_size_of(b, work, b.extra_word(t), left - passed - 1)?;
                 return b
                     .array_nelems(t)
                     .checked_mul(element)

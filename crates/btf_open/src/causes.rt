@@ -1,8 +1,8 @@
 // The nine causes of a refused opening, in the order of document 01's table.
-ghost use Rattle.std.specs.Prelude.{◌≡◌, not, ◌+◌, ◌*◌};
-ghost use Rattle.spec_opening.specs.Causes.{cause1, first_of, early, late, from_six, cause_number};
+ghost use Rattle.std.specs.Prelude.{◌≡◌, not, ◌+◌, ◌*◌, [], ◌∷◌};
+ghost use Rattle.spec_opening.specs.Causes.{cause1, cause2, cause3, cause4, next, first_of, cause_number};
 ghost use Rattle.spec_opening.specs.Table.{empty_index};
-ghost use Rattle.spec_opening.specs.Opened.{examine_out, examined};
+ghost use Rattle.spec_opening.specs.Opened.{examine_out, examined, indexed};
 
 use base_bytes::limit;
 use base_bytes::refusal::Refusal;
@@ -10,12 +10,11 @@ use btf_open_causes::header::btf_of;
 use btf_open_causes::loops::has_loop;
 use btf_open_causes::prototypes::leads_to_proto;
 use btf_open_causes::records::{Counts, scan};
-use btf_open_causes::references::has_bad_reference;
+use btf_open_causes::references::{Index, has_bad_reference};
 use btf_open_causes::strings::{has_bad_header, has_bad_strings};
 use btf_type_table::table::Table;
 
-// Refused by the first cause that holds: 1 to 4 (`header_cause`), 5, 6 to 8 (`reference_cause`), 9. Where none does, `start` is the
-// index of the records.
+// Refused by the first cause that holds: 1, 2 to 6 (`index_records`), 7, 8, 9. Where none does, `start` is the index of the records.
 pub fn examine(
     section: &[u8],
     pointer_size: u32,
@@ -25,26 +24,49 @@ pub fn examine(
     requires { start.old ≡ empty_index }
     ensures { examine_out result start.new ≡ examined pointer_size section.now work_len }
 {
-    header_cause(section, pointer_size)?;
-    let head = btf_of(section, pointer_size, 0, 0);
-    let Some(counts) = scan(&Table { head, section }, start) else {
-        return Err(Refusal::BadRecord);
-    };
+    if !is_pointer_size(pointer_size) {
+        return Err(Refusal::PointerSize);
+    }
+    let counts = index_records(section, pointer_size, start)?;
     let head = btf_of(section, pointer_size, 0, counts.types);
-    reference_cause(&Table { head, section }, start)?;
+    let table = Table { head, section };
+    let index = Index { table, start };
+    if leads_to_proto(&index) {
+        return Err(Refusal::PrototypeHeld);
+    }
+    if has_loop(&index) {
+        return Err(Refusal::Loop);
+    }
     if (work_len as u64) < work_size(counts) {
         return Err(Refusal::WorkShort);
     }
     Ok(counts)
 }
 
-// Causes 1 to 4.
-fn header_cause(section: &[u8], pointer_size: u32) -> Result<(), Refusal>
-    ensures { cause_number result ≡ first_of (early pointer_size section.now) }
+// Causes 2 to 6, which are tested of a section that is cut down too. Where none holds, `start` is the index of the records.
+pub fn index_records(
+    section: &[u8],
+    pointer_size: u32,
+    start: &mut [u32],
+) -> Result<Counts, Refusal>
+    requires { start.old ≡ empty_index }
+    ensures { examine_out result start.new ≡ indexed pointer_size section.now }
 {
-    if !is_pointer_size(pointer_size) {
-        return Err(Refusal::PointerSize);
+    section_cause(section)?;
+    let head = btf_of(section, pointer_size, 0, 0);
+    let counts = scan(&Table { head, section }, start).ok_or(Refusal::BadRecord)?;
+    let head = btf_of(section, pointer_size, 0, counts.types);
+    let table = Table { head, section };
+    if has_bad_reference(&Index { table, start }) {
+        return Err(Refusal::BadReference);
     }
+    Ok(counts)
+}
+
+// Causes 2 to 4.
+pub fn section_cause(section: &[u8]) -> Result<(), Refusal>
+    ensures { cause_number result ≡ next (first_of (cause2 section.now ∷ cause3 section.now ∷ cause4 section.now ∷ [])) }
+{
     let is_long = section.len() > limit::MOST_BYTES;
     if is_long {
         return Err(Refusal::SectionTooLong);
@@ -54,22 +76,6 @@ fn header_cause(section: &[u8], pointer_size: u32) -> Result<(), Refusal>
     }
     if has_bad_strings(section) {
         return Err(Refusal::BadStrings);
-    }
-    Ok(())
-}
-
-// Causes 6, 7 and 8.
-fn reference_cause(b: &Table, start: &[u32]) -> Result<(), Refusal>
-    ensures { cause_number result ≡ from_six (first_of (late b.now.head b.now.section.now start.now)) }
-{
-    if has_bad_reference(b, start) {
-        return Err(Refusal::BadReference);
-    }
-    if leads_to_proto(b, start) {
-        return Err(Refusal::PrototypeHeld);
-    }
-    if has_loop(b, start) {
-        return Err(Refusal::Loop);
     }
     Ok(())
 }

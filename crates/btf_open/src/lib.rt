@@ -1,5 +1,5 @@
 // Opening: the nine causes in their order, and then the work.
 #![tactic(auto)]
 
-mod causes;
+pub mod causes;
 pub mod opening;

@@ -8,6 +8,7 @@ use base_bytes::refusal::Refusal;
 use base_bytes::word::clear;
 use btf_open_causes::header::btf_of;
 use btf_open_causes::records::Counts;
+use btf_open_causes::references::Index;
 use btf_type_table::table::Table;
 
 // Opens a section. A refusal leaves work and text as they were.
@@ -26,8 +27,12 @@ pub fn open(
     clear(text);
     clear(work);
     let head = btf_of(section, pointer_size, modes, counts.types);
-    let b = Table { head, section };
-    btf_open_names::fill::fill(&b, counts.enumerators, &start, work);
-    btf_open_names::taken_numbers::takers(&b, modes, counts.enumerators, work);
+    let table = Table { head, section };
+    let index = Index {
+        table,
+        start: &start,
+    };
+    btf_open_names::fill::fill(&index, counts.enumerators, work);
+    btf_open_names::taken_numbers::takers(&table, modes, counts.enumerators, work);
     Ok(counts)
 }

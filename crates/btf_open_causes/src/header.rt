@@ -1,5 +1,5 @@
 // The header, and what the types of a table need of header and settings.
-ghost use Rattle.std.specs.Prelude.{◌≡◌, ◌+◌, ltb, eqb};
+ghost use Rattle.std.specs.Prelude.{◌≡◌, ◌<◌, ◌+◌, ◌/◌, ◌%◌, ltb, eqb};
 ghost use Rattle.spec_bytes.specs.words.Words.{pick};
 ghost use Rattle.spec_linux_btf.specs.Section.{is_big_endian};
 ghost use Rattle.btf_open_causes.specs.header.Header.{header_of, btf_of};
@@ -9,9 +9,19 @@ use base_bytes::word::word_in;
 use spec_type_table::TypeTable;
 
 // The magic as a section has it whose words have their most significant byte first, and as any other has it.
-const BIG_MAGIC: [u8; 2] = [0xeb, 0x9f];
+pub const BIG_MAGIC: [u8; 2] = [0xeb, 0x9f];
 
 pub const LITTLE_MAGIC: [u8; 2] = [0x9f, 0xeb];
+
+// The modes of a session, a bit each.
+pub const UNION_AS_STRUCT: u32 = 1;
+
+pub const STRONG_ARRAYS: u32 = 2;
+
+pub const PLACING: u32 = 4;
+
+// Names that cannot collide.
+pub const NAMES_APART: u32 = 8;
 
 // struct btf_header from hdr_len on; offsets count from the header's end.
 #[derive(Clone, Copy)]
@@ -64,6 +74,14 @@ fn strings_at(h: Header) -> u32
     h.hdr_len.saturating_add(h.str_off)
 }
 
+// Whether a mode is set.
+pub fn has_mode(modes: u32, mode: u32) -> bool
+    requires { 0 < mode }
+    ensures { result ≡ eqb (modes / mode % 2) 1 }
+{
+    modes / mode % 2 == 1
+}
+
 // What the types of a table need of its header and settings.
 pub fn btf_of(section: &[u8], pointer_size: u32, modes: u32, types: u32) -> TypeTable
     ensures { result ≡ btf_of section.now pointer_size modes types }
@@ -71,10 +89,10 @@ pub fn btf_of(section: &[u8], pointer_size: u32, modes: u32, types: u32) -> Type
     let h = btf_header(section);
     TypeTable {
         ptr_sz: size_of_pointer(pointer_size),
-        union_as_struct: modes % 2 == 1,
+        union_as_struct: has_mode(modes, UNION_AS_STRUCT),
         big_endian: is_big_endian(section),
-        strong_arrays: modes / 2 % 2 == 1,
-        placing: modes / 4 % 2 == 1,
+        strong_arrays: has_mode(modes, STRONG_ARRAYS),
+        placing: has_mode(modes, PLACING),
         types: count_of_types(types),
         strs: strings_at(h),
     }

@@ -1,78 +1,74 @@
 // Cause 8: a loop of pointers, arrays, qualifiers, type tags, typedefs and prototypes only. A walk down the graph: st[x] is
 // NEW, or k + 1 for one on the walk whose first k successors are passed, or DONE; the stack is the walk. Each turn raises one
 // word of st. A type with no successors is passed and never stands on the walk.
-ghost use Rattle.std.specs.Prelude.{◌≡◌, ◌<◌, ◌≤◌};
+ghost use Rattle.std.specs.Prelude.{◌≡◌, ◌<◌, ◌≤◌, ◌/◌, ◌%◌};
 ghost use Rattle.btf_open_causes.specs.references.Followed.{id_at};
 ghost use Rattle.btf_open_causes.specs.loops.Graph.{has_loop};
 ghost use Rattle.btf_open_causes.specs.loops.Loops.{deg_at, graph_of};
 ghost use Rattle.btf_open_causes.specs.loops.Walk.{Known, Opened, Passes, Inv, Turned, Walked};
 
-use crate::references::{count, count_at, entry, id_at};
+use crate::references::{Entry, Index};
 use base_bytes::limit;
-use btf_type_table::table::Table;
 use spec_type_table::Kind;
 
-// No type has so many successors. (A word and no enum: a cell of an enum that holds a number takes eight bytes a type, not four.)
+// (Words and no enum: a cell of an enum that holds a number takes eight bytes a type, not four.)
 const NEW: u32 = 0;
 
+// No type has so many successors.
 const DONE: u32 = 131072;
 
-// How many successors the record of a kind at a place has.
-fn degree(b: &Table, kind: u32, at: u32) -> u32
-    ensures { result ≡ deg_at b.now.head b.now.section.now kind at }
+// How many successors the record with an entry has.
+fn degree(i: &Index, e: Entry) -> u32
+    ensures { result ≡ deg_at i.now.table.head i.now.table.section.now (e.word % 32) (e.word / 32) }
 {
-    match Kind::numbered(kind) {
+    match e.kind() {
         Kind::Struct | Kind::Union => 0,
-        _ => count_at(b, kind, at),
+        _ => i.count_at(e),
     }
 }
 
 // Whether it is not known that no loop follows y: y is in the table, is not done, and has successors if it is new.
-fn is_open(b: &Table, start: &[u32], st: &[u32], y: u32) -> bool
-    requires { Known (graph_of b.now.head b.now.section.now start.now) st.now }
-    ensures { Opened (graph_of b.now.head b.now.section.now start.now) st.now y result }
+fn is_open(i: &Index, st: &[u32], y: u32) -> bool
+    requires { Known (graph_of i.now.table.head i.now.table.section.now i.now.start.now) st.now }
+    ensures { Opened (graph_of i.now.table.head i.now.table.section.now i.now.start.now) st.now y result }
 {
     let Some(&w) = st.get(y as usize) else {
         return false;
     };
     match w {
-        NEW => {
-            let e = entry(b.head, start, y);
-            degree(b, e % 32, e / 32) != 0
-        }
+        NEW => degree(i, i.entry(y)) != 0,
         DONE.. => false,
         _ => true,
     }
 }
 
 // The first k, from the given one on and below n, whose successor k is open.
-fn pass(b: &Table, start: &[u32], st: &[u32], kind: u32, at: u32, n: u32, from: u32) -> Option<u32>
-    requires { Known (graph_of b.now.head b.now.section.now start.now) st.now }
-    ensures { Passes (graph_of b.now.head b.now.section.now start.now) st.now
-        (id_at b.now.head b.now.section.now kind at) n from result }
+fn pass(i: &Index, st: &[u32], e: Entry, n: u32, from: u32) -> Option<u32>
+    requires { Known (graph_of i.now.table.head i.now.table.section.now i.now.start.now) st.now }
+    ensures { Passes (graph_of i.now.table.head i.now.table.section.now i.now.start.now) st.now
+        (id_at i.now.table.head i.now.table.section.now (e.word % 32) (e.word / 32)) n from result }
 {
-    (from..n).find(|k| is_open(b, start, st, id_at(b, kind, at, *k)))
+    (from..n).find(|k| is_open(i, st, i.id_at(e, *k)))
 }
 
-// One step of the walk: one type more on it, or one less. None: there is a loop.
-fn turn(b: &Table, start: &[u32], st: &mut [u32], stack: &mut [u32], d: usize) -> Option<usize>
-    requires { Inv (graph_of b.now.head b.now.section.now start.now) st.old stack.old d × (0 < d) }
-    ensures { Turned (graph_of b.now.head b.now.section.now start.now) st.old d st.new
+// One step of the walk: one type more on it, or one less. None: there is a loop. (The stack is a slice and its height d: there is no
+// heap for a Vec.)
+fn turn(i: &Index, st: &mut [u32], stack: &mut [u32], d: usize) -> Option<usize>
+    requires { Inv (graph_of i.now.table.head i.now.table.section.now i.now.start.now) st.old stack.old d × (0 < d) }
+    ensures { Turned (graph_of i.now.table.head i.now.table.section.now i.now.start.now) st.old d st.new
         stack.new result }
 {
     let x = stack[d - 1];
     let at = x as usize;
-    let e = entry(b.head, start, x);
-    let kind = e % 32;
-    let place = e / 32;
-    let n = degree(b, kind, place);
+    let e = i.entry(x);
+    let n = degree(i, e);
     let passed = st[at] - 1;
-    let Some(k) = pass(b, start, st, kind, place, n, passed) else {
+    let Some(k) = pass(i, st, e, n, passed) else {
         st[at] = DONE;
         return Some(d - 1);
     };
     st[at] = k + 1;
-    let y = id_at(b, kind, place, k);
+    let y = i.id_at(e, k);
     let next = y as usize;
     if st[next] != NEW {
         return None;
@@ -83,16 +79,15 @@ fn turn(b: &Table, start: &[u32], st: &mut [u32], stack: &mut [u32], d: usize) -
 }
 
 // Whether a walk from x meets a loop.
-fn walk(b: &Table, start: &[u32], st: &mut [u32], stack: &mut [u32], x: u32) -> bool
-    requires { Inv (graph_of b.now.head b.now.section.now start.now) st.old stack.old 0 × (x < 262145) }
-    ensures { Walked (graph_of b.now.head b.now.section.now start.now) x st.new stack.new result }
+fn walk(i: &Index, st: &mut [u32], stack: &mut [u32], x: u32) -> bool
+    requires { Inv (graph_of i.now.table.head i.now.table.section.now i.now.start.now) st.old stack.old 0 × (x < 262145) }
+    ensures { Walked (graph_of i.now.table.head i.now.table.section.now i.now.start.now) x st.new stack.new result }
 {
     let at = x as usize;
     if st[at] != NEW {
         return false;
     }
-    let e = entry(b.head, start, x);
-    if degree(b, e % 32, e / 32) == 0 {
+    if degree(i, i.entry(x)) == 0 {
         st[at] = DONE;
         return false;
     }
@@ -101,7 +96,7 @@ fn walk(b: &Table, start: &[u32], st: &mut [u32], stack: &mut [u32], x: u32) -> 
     let mut d: usize = 1;
     // A `while`: the chain of open types grows and falls, so no range says the turns.
     while d > 0 {
-        let Some(next) = turn(b, start, st, stack, d) else {
+        let Some(next) = turn(i, st, stack, d) else {
             return true;
         };
         d = next;
@@ -109,22 +104,23 @@ fn walk(b: &Table, start: &[u32], st: &mut [u32], stack: &mut [u32], x: u32) -> 
     false
 }
 
-fn scan(b: &Table, start: &[u32], st: &mut [u32], stack: &mut [u32]) -> bool
-    requires { Inv (graph_of b.now.head b.now.section.now start.now) st.old stack.old 0 }
-    ensures { result ≡ has_loop (graph_of b.now.head b.now.section.now start.now) }
+// (A `for` and no `any`: of a closure that writes what it captures a proof learns nothing about its answers.)
+fn scan(i: &Index, st: &mut [u32], stack: &mut [u32]) -> bool
+    requires { Inv (graph_of i.now.table.head i.now.table.section.now i.now.start.now) st.old stack.old 0 }
+    ensures { result ≡ has_loop (graph_of i.now.table.head i.now.table.section.now i.now.start.now) }
 {
-    for x in 0..count(b.head) {
-        if walk(b, start, st, stack, x) {
+    for x in 0..i.count() {
+        if walk(i, st, stack, x) {
             return true;
         }
     }
     false
 }
 
-pub fn has_loop(b: &Table, start: &[u32]) -> bool
-    ensures { result ≡ has_loop (graph_of b.now.head b.now.section.now start.now) }
+pub fn has_loop(i: &Index) -> bool
+    ensures { result ≡ has_loop (graph_of i.now.table.head i.now.table.section.now i.now.start.now) }
 {
     let mut st = [0u32; limit::TYPES_LEN];
     let mut stack = [0u32; limit::TYPES_LEN];
-    scan(b, start, &mut st, &mut stack)
+    scan(i, &mut st, &mut stack)
 }

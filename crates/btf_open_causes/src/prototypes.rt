@@ -1,13 +1,12 @@
 // Cause 7: a member or an array element that is a prototype, through typedefs, qualifiers, type tags and arrays. Each type
 // is walked once; a cell for each type remembers the answer.
-ghost use Rattle.std.specs.Prelude.{◌≡◌};
+ghost use Rattle.std.specs.Prelude.{◌≡◌, ◌/◌, ◌%◌};
 ghost use Rattle.btf_open_causes.specs.prototypes.Prototypes.{what_of, next_of, track_of, asks_at, any_leads};
 ghost use Rattle.btf_open_causes.specs.prototypes.Cells.{Says, Fairs, Rest, Looked, Settle, Answer, Part};
 
-use crate::references::{count, count_at, entry, followed, id_at, kind_at};
+use crate::references::{Entry, Index};
 use base_bytes::limit;
-use btf_type_table::table::Table;
-use spec_type_table::{Kind, TypeTable};
+use spec_type_table::Kind;
 
 // Whether a type leads to a prototype.
 #[derive(Clone, Copy)]
@@ -20,10 +19,10 @@ enum Cell {
 }
 
 // What the kind of a type says: a prototype is one, and what passes on to its target is not known by itself.
-fn cell_of(b: TypeTable, start: &[u32], x: u32) -> Cell
-    ensures { Says (what_of b start.now x) result }
+fn cell_of(i: &Index, x: u32) -> Cell
+    ensures { Says (what_of i.now.table.head i.now.start.now x) result }
 {
-    match Kind::numbered(kind_at(b, start, x)) {
+    match i.kind_at(x) {
         Kind::Array
         | Kind::Typedef
         | Kind::Volatile
@@ -35,111 +34,110 @@ fn cell_of(b: TypeTable, start: &[u32], x: u32) -> Cell
     }
 }
 
-fn next(b: &Table, start: &[u32], x: u32) -> u32
-    ensures { result ≡ next_of b.now.head b.now.section.now start.now x }
+fn next(i: &Index, x: u32) -> u32
+    ensures { result ≡ next_of i.now.table.head i.now.table.section.now i.now.start.now x }
 {
-    followed(b, start, x, 0)
+    i.followed(x, 0)
 }
 
-// How many of the ids that the record of a kind at a place follows are members or elements.
-fn asks(b: &Table, kind: u32, at: u32) -> u32
-    ensures { result ≡ asks_at b.now.head b.now.section.now kind at }
+// How many of the ids that the record with an entry follows are members or elements.
+fn asks(i: &Index, e: Entry) -> u32
+    ensures { result ≡ asks_at i.now.table.head i.now.table.section.now (e.word % 32) (e.word / 32) }
 {
-    match Kind::numbered(kind) {
-        Kind::Array | Kind::Struct | Kind::Union => count_at(b, kind, at),
+    match e.kind() {
+        Kind::Array | Kind::Struct | Kind::Union => i.count_at(e),
         _ => 0,
     }
 }
 
 // What is known of z; where it is Unknown, the walk goes on.
-fn look(b: &Table, start: &[u32], cell: &[Cell], z: u32) -> Cell
-    requires { Fairs (track_of b.now.head b.now.section.now start.now) cell.now }
-    ensures { Looked (track_of b.now.head b.now.section.now start.now) cell.now z result }
+fn look(i: &Index, cell: &[Cell], z: u32) -> Cell
+    requires { Fairs (track_of i.now.table.head i.now.table.section.now i.now.start.now) cell.now }
+    ensures { Looked (track_of i.now.table.head i.now.table.section.now i.now.start.now) cell.now z result }
 {
     match cell.get(z as usize) {
-        Some(Cell::Unknown) => cell_of(b.head, start, z),
+        Some(Cell::Unknown) => cell_of(i, z),
         Some(known) => *known,
         None => Cell::No,
     }
 }
 
 // Gives the m types of the walk from y the answer.
-fn settle(b: &Table, start: &[u32], cell: &mut [Cell], y: u32, m: u32, answer: Cell)
-    requires { Settle (track_of b.now.head b.now.section.now start.now) y m answer cell.old y 0 }
-    ensures { Rest (track_of b.now.head b.now.section.now start.now) cell.new }
+fn settle(i: &Index, cell: &mut [Cell], y: u32, m: u32, answer: Cell)
+    requires { Settle (track_of i.now.table.head i.now.table.section.now i.now.start.now) y m answer cell.old y 0 }
+    ensures { Rest (track_of i.now.table.head i.now.table.section.now i.now.start.now) cell.new }
 {
     let mut z = y;
     for _ in 0..m {
         cell[z as usize] = answer;
-        z = next(b, start, z);
+        z = next(i, z);
     }
 }
 
 // Does y, of which that is not known, lead to a prototype?
-fn walk(b: &Table, start: &[u32], cell: &mut [Cell], y: u32) -> bool
-    requires { Rest (track_of b.now.head b.now.section.now start.now) cell.old }
-    ensures { Answer (track_of b.now.head b.now.section.now start.now) y cell.new result }
+fn walk(i: &Index, cell: &mut [Cell], y: u32) -> bool
+    requires { Rest (track_of i.now.table.head i.now.table.section.now i.now.start.now) cell.old }
+    ensures { Answer (track_of i.now.table.head i.now.table.section.now i.now.start.now) y cell.new result }
 {
     let mut z = y;
     let mut m: u32 = 0;
-    let mut seen = look(b, start, cell, z);
-    // A `while`: each turn goes where the last one read that the type leads.
+    let mut seen = look(i, cell, z);
+    // A `while`: each turn goes where the last one read that the type leads, and marks it.
     while let Cell::Unknown = seen {
         cell[z as usize] = Cell::Passed;
-        z = next(b, start, z);
+        z = next(i, z);
         m += 1;
-        seen = look(b, start, cell, z);
+        seen = look(i, cell, z);
     }
     if let Cell::Yes = seen {
-        settle(b, start, cell, y, m, Cell::Yes);
+        settle(i, cell, y, m, Cell::Yes);
         return true;
     }
-    settle(b, start, cell, y, m, Cell::No);
+    settle(i, cell, y, m, Cell::No);
     false
 }
 
 // Does y lead to a prototype? For most types that is known at once.
-fn ask(b: &Table, start: &[u32], cell: &mut [Cell], y: u32) -> bool
-    requires { Rest (track_of b.now.head b.now.section.now start.now) cell.old }
-    ensures { Answer (track_of b.now.head b.now.section.now start.now) y cell.new result }
+fn ask(i: &Index, cell: &mut [Cell], y: u32) -> bool
+    requires { Rest (track_of i.now.table.head i.now.table.section.now i.now.start.now) cell.old }
+    ensures { Answer (track_of i.now.table.head i.now.table.section.now i.now.start.now) y cell.new result }
 {
-    match look(b, start, cell, y) {
-        Cell::Unknown => walk(b, start, cell, y),
+    match look(i, cell, y) {
+        Cell::Unknown => walk(i, cell, y),
         Cell::Yes => true,
         Cell::No | Cell::Passed => false,
     }
 }
 
-fn asks_of(b: &Table, start: &[u32], cell: &mut [Cell], x: u32) -> bool
-    requires { Rest (track_of b.now.head b.now.section.now start.now) cell.old }
-    ensures { Part b.now.head b.now.section.now start.now x cell.new result }
+// (A `for` here and in `all`, and no `any`: of a closure that writes what it captures a proof learns nothing about its answers.)
+fn asks_of(i: &Index, cell: &mut [Cell], x: u32) -> bool
+    requires { Rest (track_of i.now.table.head i.now.table.section.now i.now.start.now) cell.old }
+    ensures { Part i.now.table.head i.now.table.section.now i.now.start.now x cell.new result }
 {
-    let e = entry(b.head, start, x);
-    let kind = e % 32;
-    let at = e / 32;
-    for k in 0..asks(b, kind, at) {
-        if ask(b, start, cell, id_at(b, kind, at, k)) {
+    let e = i.entry(x);
+    for k in 0..asks(i, e) {
+        if ask(i, cell, i.id_at(e, k)) {
             return true;
         }
     }
     false
 }
 
-fn all(b: &Table, start: &[u32], cell: &mut [Cell]) -> bool
-    requires { Rest (track_of b.now.head b.now.section.now start.now) cell.old }
-    ensures { result ≡ any_leads b.now.head b.now.section.now start.now }
+fn all(i: &Index, cell: &mut [Cell]) -> bool
+    requires { Rest (track_of i.now.table.head i.now.table.section.now i.now.start.now) cell.old }
+    ensures { result ≡ any_leads i.now.table.head i.now.table.section.now i.now.start.now }
 {
-    for x in 0..count(b.head) {
-        if asks_of(b, start, cell, x) {
+    for x in 0..i.count() {
+        if asks_of(i, cell, x) {
             return true;
         }
     }
     false
 }
 
-pub fn leads_to_proto(b: &Table, start: &[u32]) -> bool
-    ensures { result ≡ any_leads b.now.head b.now.section.now start.now }
+pub fn leads_to_proto(i: &Index) -> bool
+    ensures { result ≡ any_leads i.now.table.head i.now.table.section.now i.now.start.now }
 {
     let mut cell = [Cell::Unknown; limit::TYPES_LEN];
-    all(b, start, &mut cell)
+    all(i, &mut cell)
 }

@@ -6,6 +6,7 @@ ghost use Rattle.spec_linux_btf.specs.Places.{all_named_p};
 ghost use Rattle.btf_open_causes.specs.records.Pass.{entry_width, named_by, enums_of, next_p, scan_out, scan_p, scan_section};
 
 use crate::header::btf_header;
+use crate::references::Entry;
 use base_bytes::element::store;
 use base_bytes::limit;
 use btf_type_table::kind::{extra_of, kind_of, vlen_of};
@@ -19,60 +20,15 @@ pub struct Counts {
     pub enumerators: u32,
 }
 
-// Whether the name offsets of the n entries of the record at a place, each `width` bytes long, lie inside the string area.
-fn are_names_inside(b: &Table, at: u32, n: u32, width: u32, str_len: u32) -> bool
-    ensures { result ≡ all_named_p str_len width (section_word b.now.head b.now.section.now) (at + 12) n }
-{
-    let mut q = (at as usize) + 12;
-    for _ in 0..n {
-        if str_len <= b.word(q) {
-            return false;
-        }
-        q += width as usize;
-    }
-    true
-}
-
-// How long an entry with a name is: of members, parameters and enumerators; else 0.
-fn named_entry(info: u32) -> u32
+// How long an entry with a name is: of members, parameters and enumerators.
+fn named_entry(info: u32) -> Option<u32>
     ensures { result ≡ entry_width (kind_named (kind_of info)) }
 {
     match Kind::of(info) {
-        Kind::Struct | Kind::Union | Kind::Enum64 => 12,
-        Kind::Enum | Kind::FuncProto => 8,
-        _ => 0,
+        Kind::Struct | Kind::Union | Kind::Enum64 => Some(12),
+        Kind::Enum | Kind::FuncProto => Some(8),
+        _ => None,
     }
-}
-
-// Whether the names of the record at a place lie inside the string area.
-fn are_record_names_inside(b: &Table, at: u32, info: u32, str_len: u32) -> bool
-    ensures { result ≡ named_by str_len (section_word b.now.head b.now.section.now) info at }
-{
-    if str_len <= b.word(at as usize) {
-        return false;
-    }
-    let width = named_entry(info);
-    if width == 0 {
-        return true;
-    }
-    are_names_inside(b, at, vlen_of(info), width, str_len)
-}
-
-// The place after the record at a place, whose info word is known; none where it is malformed or reaches past the end of the area.
-fn next_record(b: &Table, at: u32, info: u32, end: u32, str_len: u32) -> Option<u32>
-    requires { info ≡ section_word b.now.head b.now.section.now (at + 4) }
-    ensures { result ≡ next_p (section_word b.now.head b.now.section.now) str_len end at }
-{
-    let left = end.checked_sub(at)?.checked_sub(12)?;
-    // Bits 16 to 23, 29 and 30 are unused.
-    if info / 65536 % 256 != 0 || info / 536870912 % 4 != 0 {
-        return None;
-    }
-    let n = extra_of(info)?;
-    if left < n || !are_record_names_inside(b, at, info, str_len) {
-        return None;
-    }
-    Some(at + 12 + n)
 }
 
 // How many enumerators a record with this info word has.
@@ -85,37 +41,78 @@ fn enumerators_of(info: u32) -> u32
     }
 }
 
-// Where a record is and its kind, as the index has it: place * 32 + kind.
-fn entry_of(at: u32, kind: u32) -> u32
-    ensures { result ≡ at % 134217728 * 32 + kind % 32 }
-{
-    at % 134217728 * 32 + kind % 32
+// The type area of a table: where it ends, and how many bytes of names the section has.
+#[derive(Clone, Copy)]
+struct Area<'a> {
+    table: Table<'a>,
+    end: u32,
+    str_len: u32,
 }
 
-// The type area from a place to its end. (A `while`: the record says where the next one stands.)
-fn scan_area(b: &Table, from: u32, end: u32, str_len: u32, start: &mut [u32]) -> Option<Counts>
-    requires { (from ≤ end) × (end ≤ 16777216) }
-    ensures { scan_out result start.new
-        ≡ scan_p (section_word b.now.head b.now.section.now) str_len from end start.old }
-{
-    let mut at = from;
-    let mut x: u32 = 1;
-    let mut enumerators: u32 = 0;
-    while at < end {
-        if limit::MOST_RECORDS < x {
+impl Area<'_> {
+    // Whether the name offsets of the n entries of the record at a place, each `width` bytes long, lie inside the string area.
+    fn are_names_inside(&self, at: u32, n: u32, width: u32) -> bool
+        ensures { result ≡ all_named_p self.now.str_len width (section_word self.now.table.head self.now.table.section.now) (at + 12) n }
+    {
+        let first = (at as usize) + 12;
+        (0..n).all(|k| self.table.word(first + (k as usize) * (width as usize)) < self.str_len)
+    }
+
+    // Whether the names of the record at a place lie inside the string area.
+    fn are_record_names_inside(&self, at: u32, info: u32) -> bool
+        ensures { result ≡ named_by self.now.str_len (section_word self.now.table.head self.now.table.section.now) info at }
+    {
+        if self.str_len <= self.table.word(at as usize) {
+            return false;
+        }
+        let Some(width) = named_entry(info) else {
+            return true;
+        };
+        self.are_names_inside(at, vlen_of(info), width)
+    }
+
+    // The place after the record at a place, whose info word is known; none where it is malformed or reaches past the end of the area.
+    fn next_record(&self, at: u32, info: u32) -> Option<u32>
+        requires { info ≡ section_word self.now.table.head self.now.table.section.now (at + 4) }
+        ensures { result ≡ next_p (section_word self.now.table.head self.now.table.section.now) self.now.str_len self.now.end at }
+    {
+        let left = self.end.checked_sub(at)?.checked_sub(12)?;
+        // Bits 16 to 23, 29 and 30 are unused.
+        if info / 65536 % 256 != 0 || info / 536870912 % 4 != 0 {
             return None;
         }
-        let info = b.word((at as usize) + 4);
-        store(start, x as usize, entry_of(at, kind_of(info)));
-        let next = next_record(b, at, info, end, str_len)?;
-        enumerators += enumerators_of(info);
-        at = next;
-        x += 1;
+        let n = extra_of(info)?;
+        if left < n || !self.are_record_names_inside(at, info) {
+            return None;
+        }
+        Some(at + 12 + n)
     }
-    Some(Counts {
-        types: x,
-        enumerators: enumerators,
-    })
+
+    // The type area from a place to its end. (A `while`: the record says where the next one stands.)
+    fn scan(&self, from: u32, start: &mut [u32]) -> Option<Counts>
+        requires { (from ≤ self.now.end) × (self.now.end ≤ 16777216) }
+        ensures { scan_out result start.new
+            ≡ scan_p (section_word self.now.table.head self.now.table.section.now) self.now.str_len from self.now.end start.old }
+    {
+        let mut at = from;
+        let mut x: u32 = 1;
+        let mut enumerators: u32 = 0;
+        while at < self.end {
+            if limit::MOST_RECORDS < x {
+                return None;
+            }
+            let info = self.table.word((at as usize) + 4);
+            store(start, x as usize, Entry::new(at, kind_of(info)).word);
+            let next = self.next_record(at, info)?;
+            enumerators += enumerators_of(info);
+            at = next;
+            x += 1;
+        }
+        Some(Counts {
+            types: x,
+            enumerators: enumerators,
+        })
+    }
 }
 
 // The records of a section whose areas lie inside it; none where one is not sound.
@@ -128,5 +125,10 @@ pub fn scan(b: &Table, start: &mut [u32]) -> Option<Counts>
     if limit::MOST_BYTES_64 < end {
         return None;
     }
-    scan_area(b, from as u32, end as u32, h.str_len, start)
+    let area = Area {
+        table: *b,
+        end: end as u32,
+        str_len: h.str_len,
+    };
+    area.scan(from as u32, start)
 }

@@ -1,5 +1,5 @@
 // Causes 3 and 4: whether header and string area are not sound.
-ghost use Rattle.std.specs.Prelude.{◌≡◌, not, ◌+◌, fold, max};
+ghost use Rattle.std.specs.Prelude.{◌≡◌, not, ◌+◌};
 ghost use Rattle.spec_linux_btf.specs.Section.{header_sound, strings_sound};
 ghost use Rattle.btf_open_causes.specs.header.Header.{is_magic, bad_strings};
 
@@ -11,9 +11,6 @@ const LEAST_LENGTH: usize = 24;
 const VERSION: u8 = 1;
 
 const LEAST_HEADER: u32 = 24;
-
-// The largest byte of ASCII.
-const LARGEST_ASCII: u8 = 127;
 
 // The end of an area.
 fn area_end(h: Header, off: u32, len: u32) -> u64
@@ -43,18 +40,11 @@ pub fn has_bad_header(section: &[u8]) -> bool
     len < area_end(h, h.type_off, h.type_len) || len < area_end(h, h.str_off, h.str_len)
 }
 
-// The largest byte. (No `is_ascii`: with no way out of the loop, this takes many bytes at a time.)
-fn largest(s: &[u8]) -> u8
-    ensures { result ≡ fold max 0 s.now }
-{
-    s.iter().fold(0, |m, x| m.max(*x))
-}
-
 // Whether a string area starts and ends in 0 and is ASCII.
 fn is_sound_area(strs: &[u8]) -> bool
     ensures { result ≡ strings_sound strs.now }
 {
-    strs.starts_with(&[0]) && strs.ends_with(&[0]) && largest(strs) <= LARGEST_ASCII
+    strs.starts_with(&[0]) && strs.ends_with(&[0]) && strs.is_ascii()
 }
 
 // Cause 4.

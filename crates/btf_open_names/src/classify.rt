@@ -6,10 +6,16 @@ ghost use Rattle.btf_open_names.specs.name_classes.Classes.{class_of, key_in, ta
 ghost use Rattle.btf_open_names.specs.keys.Keys.{key_list};
 ghost use Rattle.btf_open_names.specs.name_classes.Table.{HoldersReady, HolderFinds, holder_placed};
 
-use crate::holders::{clear_pair, clear_words, count_holders};
+use crate::holders::{Links, clear_words, count_holders};
 use crate::keys::{Key, load_key};
 use btf_type_table::cell;
 use btf_type_table::table::Table;
+
+// The holders of a bucket, each the first of its name.
+const CLASSES: Links = Links {
+    first: cell::CLASS_BUCKET,
+    next: cell::CLASS_LINK,
+};
 
 // The class of h, which has a space, by the table of the holders before it. A link is one more than a holder, and 0 ends the list.
 fn find(b: &Table, work: &[u8], h: u32, bucket: u32, key: Key) -> u32
@@ -18,7 +24,7 @@ fn find(b: &Table, work: &[u8], h: u32, bucket: u32, key: Key) -> u32
     ensures { result ≡ class_of (key_in b.now.head b.now.section.now work.now) h }
 {
     let mut l = cell::CLASS_BUCKET.get(work, b.head.types, bucket);
-    // A `while`: a list in the lent work goes by its links.
+    // A `while`: a list in the lent work goes by its links. (std takes `successors` to be endless: a walk to its end is not proved.)
     while l != 0 {
         let c = l - 1;
         if key.is_same(b.section, load_key(b, work, c)) {
@@ -42,9 +48,7 @@ fn put_holder(b: &Table, work: &mut [u8], n: u32, k: u32)
     let i = key.hash(b.section) % n;
     let r = find(b, work, k, i, key);
     if r == k {
-        let next = cell::CLASS_BUCKET.get(work, b.head.types, i);
-        cell::CLASS_LINK.put(work, b.head.types, k, next);
-        cell::CLASS_BUCKET.put(work, b.head.types, i, k + 1);
+        CLASSES.put_in_front(work, b.head.types, i, k, k + 1);
     } else {
         cell::CLASS_LINK.put(work, b.head.types, k, 0);
     }
@@ -64,5 +68,6 @@ pub fn classes(b: &Table, enumerators: u32, work: &mut [u8])
     for k in 0..n {
         put_holder(b, work, n, k);
     }
-    clear_pair(work, types, n, cell::CLASS_BUCKET, cell::CLASS_LINK);
+    clear_words(work, types, n, cell::CLASS_LINK);
+    clear_words(work, types, n, cell::CLASS_BUCKET);
 }

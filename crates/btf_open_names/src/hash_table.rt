@@ -4,10 +4,16 @@
 ghost use Rattle.std.specs.Prelude.{◌≡◌, ◌<◌};
 ghost use Rattle.btf_open_names.specs.hash_table.Hashed.{put_first, has_room, table_in};
 
-use crate::holders::{all_zero, count_holders};
+use crate::holders::{Links, all_zero, count_holders};
 use crate::keys::load_key;
 use btf_type_table::cell;
 use btf_type_table::table::Table;
+
+// The holders of a bucket.
+const BUCKETS: Links = Links {
+    first: cell::TABLE_BUCKET,
+    next: cell::TABLE_LINK,
+};
 
 // Puts holder c in front of its bucket, if it has a space.
 fn put_first(b: &Table, work: &mut [u8], n: u32, c: u32)
@@ -18,9 +24,7 @@ fn put_first(b: &Table, work: &mut [u8], n: u32, c: u32)
         return;
     };
     let i = key.hash(b.section) % n;
-    let next = cell::TABLE_BUCKET.get(work, b.head.types, i);
-    cell::TABLE_LINK.put(work, b.head.types, c, next);
-    cell::TABLE_BUCKET.put(work, b.head.types, i, c);
+    BUCKETS.put_in_front(work, b.head.types, i, c, c);
 }
 
 // Whether the work is long enough for all holders, and both words of each are 0.

@@ -1,8 +1,8 @@
-// All holders of names: how many there are, and a word of each.
+// All holders of names: how many there are, a word of each, and lists of them.
 ghost use Rattle.std.specs.Prelude.{◌≡◌};
 ghost use Rattle.spec_type_table.specs.Cells.{place_of};
 ghost use Rattle.btf_open_names.specs.name_classes.Classes.{fill, noughts};
-ghost use Rattle.btf_open_names.specs.holders.Holders.{holders_in, pair_cleared};
+ghost use Rattle.btf_open_names.specs.holders.Holders.{holders_in, linked};
 ghost use Rattle.btf_open_names.specs.hash_table.Hashed.{all_zero};
 
 use btf_type_table::cell;
@@ -30,21 +30,28 @@ pub fn clear_words(work: &mut [u8], types: u32, n: u32, word: HolderWord)
     }
 }
 
-// Sets two words of each of the first n holders to 0, in one pass over the work.
-pub fn clear_pair(work: &mut [u8], types: u32, n: u32, first: HolderWord, second: HolderWord)
-    ensures { work.new
-        ≡ pair_cleared (place_of types first.of_type first.of_value)
-        (place_of types second.of_type second.of_value) work.old n }
-{
-    for k in 0..n {
-        second.put(work, types, k, 0);
-        first.put(work, types, k, 0);
-    }
-}
-
 // Whether a word of each of the first n holders is 0.
 pub fn all_zero(work: &[u8], types: u32, n: u32, word: HolderWord) -> bool
     ensures { result ≡ all_zero (place_of types word.of_type word.of_value) work.now n }
 {
     (0..n).all(|k| word.get(work, types, k) == 0)
+}
+
+// A list of holders: the word that has its first one, and the word of each that has the next.
+#[derive(Clone, Copy)]
+pub struct Links {
+    pub first: HolderWord,
+    pub next: HolderWord,
+}
+
+impl Links {
+    // Puts holder h in front of list i, where v is written for it.
+    pub fn put_in_front(self, work: &mut [u8], types: u32, i: u32, h: u32, v: u32)
+        ensures { work.new ≡ linked (place_of types self.first.of_type self.first.of_value i)
+            (place_of types self.next.of_type self.next.of_value h) v work.old }
+    {
+        let front = self.first.get(work, types, i);
+        self.next.put(work, types, h, front);
+        self.first.put(work, types, i, v);
+    }
 }

@@ -22,7 +22,7 @@ fn count_below(work: &[u8], types: u32, class: u32, n: u32) -> u32
     let mut c: u32 = 0;
     let mut last: u32 = 0;
     let mut x = cell::FIRST_TAKER.get(work, types, class);
-    // A `while`: a list in the lent work goes by its links.
+    // A `while`: a list in the lent work goes by its links. (std takes `successors` to be endless: a walk to its end is not proved.)
     while last < x {
         c = add_if(c, cell::TAKEN_NUMBER.get(work, types, x), n);
         last = x;

@@ -2,7 +2,7 @@
 ghost use Rattle.std.specs.Prelude.{◌≡◌, ◌+◌, ◌*◌};
 ghost use Rattle.spec_type_table.specs.Records.{section_word, member_at, param_at, member_of};
 
-use crate::kind::{entries_of, kind_flag_of, member_place, param_place};
+use crate::kind::{kind_flag_of, member_place, param_place};
 use crate::table::Table;
 use base_bytes::limit;
 use spec_type_table::{BtfMember, BtfType, Entries};
@@ -12,7 +12,7 @@ impl Table<'_> {
     pub fn load_member(&self, t: BtfType, k: u32) -> BtfMember
         ensures { result ≡ member_of self.now.head self.now.section.now t k }
     {
-        let [name_off, type_id, offset] = self.three(member_place(entries_of(t), k));
+        let [name_off, type_id, offset] = self.three(member_place(t.at, k));
         if kind_flag_of(t.info) {
             return BtfMember {
                 name_off,
@@ -33,7 +33,7 @@ impl Table<'_> {
     pub fn load_enum_value(&self, e: Entries, k: u32) -> u32
         ensures { result ≡ section_word self.now.head self.now.section.now (param_at e.at k + 4) }
     {
-        self.word(param_place(e, k) + 4)
+        self.word(param_place(e.at, k) + 4)
     }
 
     // btf_enum64: the low half, then the high half, of value k.
@@ -41,7 +41,7 @@ impl Table<'_> {
         ensures { result ≡ section_word self.now.head self.now.section.now (member_at e.at k + 8) * 4294967296
             + section_word self.now.head self.now.section.now (member_at e.at k + 4) }
     {
-        let [_, low, high] = self.three(member_place(e, k));
+        let [_, low, high] = self.three(member_place(e.at, k));
         (high as u64) * limit::TWO_TO_32 + (low as u64)
     }
 }

@@ -64,15 +64,15 @@ pub fn entries_of(t: BtfType) -> Entries
 }
 
 // The place of member k; of an ENUM64's value k too.
-pub fn member_place(e: Entries, k: u32) -> usize
-    ensures { result ≡ member_at e.at k }
+pub fn member_place(at: u32, k: u32) -> usize
+    ensures { result ≡ member_at at k }
 {
-    (e.at as usize) + 12 + (k as usize) * 12
+    (at as usize) + 12 + (k as usize) * 12
 }
 
 // The place of parameter k; of an ENUM's value k too.
-pub fn param_place(e: Entries, k: u32) -> usize
-    ensures { result ≡ param_at e.at k }
+pub fn param_place(at: u32, k: u32) -> usize
+    ensures { result ≡ param_at at k }
 {
-    (e.at as usize) + 12 + (k as usize) * 8
+    (at as usize) + 12 + (k as usize) * 8
 }

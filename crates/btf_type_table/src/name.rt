@@ -18,7 +18,7 @@ const BUILTIN: &[u8] = b"__builtin_va_list";
 
 impl<'a> Table<'a> {
     // The section from the name at an offset of the string area on.
-    fn from_name(&self, off: u32) -> &'a [u8]
+    pub fn from_name(&self, off: u32) -> &'a [u8]
         ensures { result.now ≡ drop (name_place self.now.head off) self.now.section.now }
     {
         let at = (self.head.strs as usize) + (off as usize);

@@ -11,6 +11,13 @@ use crate::kind::entries_of;
 use crate::table::Table;
 use spec_type_table::{BtfType, Kind, Node};
 
+// A type by its id, with its record.
+#[derive(Clone, Copy)]
+pub struct TypeRef {
+    pub id: u32,
+    pub t: BtfType,
+}
+
 fn void() -> BtfType
     ensures { result ≡ void_record }
 {
@@ -36,19 +43,19 @@ impl Table<'_> {
         self.load_type(get_field(work, id, cell::PLACE))
     }
 
-    #[tactic(auto, using(spec_type_table::proofs::KindTypes::kind_types, spec_type_table::proofs::KindLaws::member_types_lem, spec_type_table::proofs::KindLaws::param_types_lem), unfolding(spec_type_table::specs::Nodes::node_is))]
+    #[tactic(auto, using(spec_type_table::proofs::KindTypes::node_types), unfolding(spec_type_table::specs::Nodes::node_is))]
     pub fn node_of(&self, t: BtfType) -> Node
         ensures { node_is self.now.head self.now.section.now result ≡ node_of (type_of self.now.head self.now.section.now t) }
     {
         match Kind::of(t.info) {
             Kind::Ptr => Node::Ptr(t.type_id),
-            Kind::Array => Node::Through(true, self.array_type(t)),
+            Kind::Array => Node::Array(self.extra_word(t)),
             Kind::Struct | Kind::Union => Node::Composite(entries_of(t)),
-            Kind::Enum | Kind::Enum64 => Node::Listed(false),
-            Kind::Fwd => Node::Listed(true),
+            Kind::Enum | Kind::Enum64 => Node::Enum,
+            Kind::Fwd => Node::Fwd,
             Kind::Typedef => Node::Typedef(t.type_id),
             Kind::Volatile | Kind::Const | Kind::Restrict | Kind::TypeTag => Node::Through(
-                false, t.type_id,
+                t.type_id,
             ),
             Kind::Func | Kind::Var | Kind::Datasec | Kind::DeclTag => Node::Ignored,
             Kind::FuncProto => Node::Proto(t.type_id, entries_of(t)),

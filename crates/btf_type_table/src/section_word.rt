@@ -35,30 +35,25 @@ impl Table<'_> {
         }
     }
 
-    // The INT word of a record: its width is in bits 0-7.
-    pub fn int_bits(&self, t: BtfType) -> u32
-        ensures { result ≡ extra_word self.now.head self.now.section.now t % 256 }
-    {
-        self.word((t.at as usize) + 12) % 256
-    }
-
-    // btf_array.type and btf_array.nelems.
-    pub fn array_type(&self, t: BtfType) -> u32
+    // The word that follows the twelve bytes of a record: an INT's encoding, btf_array.type, or btf_decl_tag.component_idx, in which -1 is
+    // 4294967295.
+    pub fn extra_word(&self, t: BtfType) -> u32
         ensures { result ≡ extra_word self.now.head self.now.section.now t }
     {
         self.word((t.at as usize) + 12)
     }
 
+    // The width of an INT: bits 0-7 of its word.
+    pub fn int_bits(&self, t: BtfType) -> u32
+        ensures { result ≡ extra_word self.now.head self.now.section.now t % 256 }
+    {
+        self.extra_word(t) % 256
+    }
+
+    // btf_array.nelems.
     pub fn array_nelems(&self, t: BtfType) -> u32
         ensures { result ≡ nelems_word self.now.head self.now.section.now t }
     {
         self.word((t.at as usize) + 20)
-    }
-
-    // btf_decl_tag.component_idx; -1 is 4294967295.
-    pub fn comp_idx_of(&self, t: BtfType) -> u32
-        ensures { result ≡ extra_word self.now.head self.now.section.now t }
-    {
-        self.word((t.at as usize) + 12)
     }
 }

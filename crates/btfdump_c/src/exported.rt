@@ -9,14 +9,17 @@ mod explained;
 ghost use Rattle.std.specs.Prelude.{◌≡◌};
 ghost use Rattle.spec_c_calls.specs.Exports.{export_of, open_export, type_export, types_export, list_export};
 ghost use Rattle.spec_session.specs.calls.Lists.{ids_in};
+ghost use Rattle.session_record.specs.record_words.Words.{decoded};
+ghost use Rattle.session_requests.specs.options.Requests.{ended_of};
+ghost use Rattle.session_requests.specs.options.Lists.{call_with};
 ghost use Rattle.spec_c_calls.specs.Field.{path_export_of, field_export};
 
 use session_field_at_bit::field::which_field;
 use session_record::record_bytes::{answered, listed, opened};
 use session_record::record_words::{ANSWER_SHORT_SLICE, RECORD_BYTES, decode, number_or_value};
+use session_requests::call::Call;
 use session_requests::open_call::open_core;
-use session_requests::options::{Options, Wanted};
-use session_requests::requests::request;
+use session_requests::options::{Ended, Options, Wanted};
 use spec_bytes::refusal::Refusal;
 
 // The head of each call says what a record that is too short leaves, as it differs by call: opening answers 255, the others 11; those of
@@ -41,6 +44,28 @@ pub extern "C" fn btfdump_open(
     opened(record, t)
 }
 
+// A request on the session of a record, by what is wanted and its options: what nine of the calls share beside their heads. Each
+// writes its own words of the record and the numbers that it is lent.
+fn request_on(
+    record: &[u8],
+    section: &[u8],
+    work: &mut [u8],
+    text: &mut [u8],
+    list: &mut [u8],
+    wanted: Wanted,
+    options: Options,
+) -> Ended
+    ensures { ended_of result work.new text.new list.new
+        ≡ call_with options (decoded «record».now) section.now work.old text.old wanted.entry list.old }
+{
+    let call = Call {
+        session: decode(record),
+        section,
+        options,
+    };
+    call.request(work, text, list, wanted)
+}
+
 #[unsafe(no_mangle)]
 pub extern "C" fn btfdump_dump_type(
     record: &mut [u8],
@@ -55,10 +80,10 @@ pub extern "C" fn btfdump_dump_type(
     if record.len() < RECORD_BYTES {
         return number_or_value(Err(Refusal::SessionClosed));
     }
-    let s = decode(record);
+    let wanted = Wanted::One(id);
     let o = Options::Plain;
-    let d = request(s, section, work, text, &mut [0u8; 0], Wanted::One(id), o);
-    answered(record, d.turn)
+    let d = request_on(record, section, work, text, &mut [0u8; 0], wanted, o);
+    answered(record, d.of)
 }
 
 #[unsafe(no_mangle)]
@@ -74,10 +99,10 @@ pub extern "C" fn btfdump_dump_types(
     if record.len() < RECORD_BYTES {
         return number_or_value(Err(Refusal::SessionClosed));
     }
-    let s = decode(record);
+    let wanted = Wanted::All;
     let o = Options::Plain;
-    let d = request(s, section, work, text, &mut [0u8; 0], Wanted::All, o);
-    answered(record, d.turn)
+    let d = request_on(record, section, work, text, &mut [0u8; 0], wanted, o);
+    answered(record, d.of)
 }
 
 #[unsafe(no_mangle)]
@@ -97,10 +122,10 @@ pub extern "C" fn btfdump_dump_list(
     if record.len() < RECORD_BYTES {
         return number_or_value(Err(Refusal::SessionClosed));
     }
-    let s = decode(record);
+    let wanted = Wanted::Ids(ids);
     let o = Options::Plain;
-    let d = request(s, section, work, text, &mut [0u8; 0], Wanted::Ids(ids), o);
-    listed(record, d.turn)
+    let d = request_on(record, section, work, text, &mut [0u8; 0], wanted, o);
+    listed(record, d.of)
 }
 
 #[unsafe(no_mangle)]

@@ -5,7 +5,7 @@ mod params;
 mod words;
 
 pub use crate::bodies::bodies::{
-    Spot, emit_composite_end, emit_composite_head, emit_enum_word, emit_member_end,
+    Body, Spot, emit_composite_end, emit_composite_head, emit_enum_word, emit_member_end,
     put_typedef_name,
 };
 pub use crate::bodies::params::{is_any_more, shown_params};

@@ -5,9 +5,8 @@ ghost use Rattle.spec_bytes.specs.text.Placed.{put_out, put_text};
 ghost use Rattle.spec_c_dumper.specs.rules.Place.{out_of, put_said};
 ghost use Rattle.spec_c_dumper.specs.rules.Names.{spelled};
 ghost use Rattle.spec_c_dumper.specs.rules.Decl as rules;
-ghost use Rattle.spec_c_dumper.specs.rules.Decl.{enum_word};
 ghost use Rattle.spec_type_table.specs.Names.{str_at};
-ghost use Rattle.spec_type_table.specs.Table.{btf_of, work_naming, value_version_in};
+ghost use Rattle.spec_type_table.specs.Table.{work_naming, value_version_in};
 ghost use Rattle.c_dumper_bodies.specs.enumerators.Heads.{enum_head, value_head, enum_end};
 
 use base_bytes::put::{put_byte, put_bytes, put_tabs};
@@ -38,7 +37,7 @@ pub fn emit_enumerator(
     put_bytes(text, d, b" = ")
 }
 
-// `enum` and the name.
+// `enum` and the name: the head of a definition, and a mention.
 pub fn emit_enum_head(
     b: &Table,
     work: &mut [u8],
@@ -69,23 +68,4 @@ pub fn deeper(lvl: u32) -> u32
     ensures { result ≡ rules.deeper lvl }
 {
     lvl.saturating_add(1)
-}
-
-// The mention of a named enum.
-pub fn put_enum_name(
-    b: &Table,
-    work: &mut [u8],
-    text: &mut [u8],
-    at: usize,
-    id: u32,
-    name_off: u32,
-) -> Result<usize, Refusal>
-    ensures { out_of result text.new work.new
-        ≡ put_said text.old (Ok at) (enum_word (work_naming b.now.head) (btf_of b.now.head b.now.section.now work.old) id
-        (str_at b.now.head b.now.section.now name_off) work.old) }
-{
-    let name = resolve_type_name(b, work, id, name_off);
-    let a = put_word(text, at, Word::Enum)?;
-    let c = put_byte(text, a, b' ')?;
-    put_name(b, text, c, name)
 }

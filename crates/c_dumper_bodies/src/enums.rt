@@ -7,16 +7,17 @@ ghost use Rattle.spec_c_dumper.specs.rules.Decl.{enum_value, enum64_value, emit_
 ghost use Rattle.spec_type_table.specs.Names.{str_at};
 ghost use Rattle.spec_type_table.specs.Records.{flag_of};
 ghost use Rattle.spec_type_table.specs.Table.{btf_of, work_naming};
-ghost use Rattle.c_dumper_bodies.specs.enums.Widths.{is_wide, value_size, value_text, enumerator_at, enum_values};
+ghost use Rattle.c_dumper_bodies.specs.enums.Widths.{is_wide, value_at, value_text, enumerator_at, enum_values};
 
 use crate::enumerators::{deeper, emit_enum_end, emit_enum_head, emit_enumerator};
 use base_bytes::put::{put_byte, put_bytes, put_decimal};
 use base_bytes::refusal::Refusal;
-use base_keywords::signed_decimal::{as_i32, as_i64, put_i32, put_i64};
+use base_keywords::signed_decimal::{put_i32, put_i64};
 use base_keywords::table::{Word, put_word};
 use btf_type_table::cell;
 use btf_type_table::cell::get_field;
-use btf_type_table::kind::{entries_of, kind_flag_of, member_place};
+use btf_type_table::kind::{entries_of, kind_flag_of, member_place, param_place};
+use btf_type_table::node::TypeRef;
 use btf_type_table::table::Table;
 use spec_type_table::{BtfType, Entries, Kind};
 
@@ -28,11 +29,14 @@ fn is_wide(t: BtfType) -> bool
     Kind::of(t.info) == Kind::Enum64
 }
 
-// The bytes of struct btf_enum64 and of struct btf_enum.
-fn value_size(wide: bool) -> usize
-    ensures { result ≡ value_size wide }
+// The place of value k: a struct btf_enum64 or a struct btf_enum.
+fn value_place(values: Entries, wide: bool, k: u32) -> usize
+    ensures { result ≡ value_at wide values.at k }
 {
-    if wide { 12 } else { 8 }
+    if wide {
+        return member_place(values.at, k);
+    }
+    param_place(values.at, k)
 }
 
 // value_str of an ENUM.
@@ -40,7 +44,7 @@ fn put_value(text: &mut [u8], at: usize, is_signed: bool, v: u32) -> Result<usiz
     ensures { put_out result text.new ≡ put_text text.old (Ok at) (whole (enum_value is_signed v)) }
 {
     if is_signed {
-        return put_i32(text, at, as_i32(v));
+        return put_i32(text, at, v.cast_signed());
     }
     put_decimal(text, at, v as u64)
 }
@@ -50,7 +54,7 @@ fn put_value64(text: &mut [u8], at: usize, is_signed: bool, v: u64) -> Result<us
     ensures { put_out result text.new ≡ put_text text.old (Ok at) (whole (enum64_value is_signed v)) }
 {
     if is_signed {
-        return put_i64(text, at, as_i64(v));
+        return put_i64(text, at, v.cast_signed());
     }
     let a = put_decimal(text, at, v)?;
     put_word(text, a, Word::Ull)
@@ -83,28 +87,24 @@ fn emit_values(
     work: &mut [u8],
     text: &mut [u8],
     at: usize,
-    id: u32,
-    t: BtfType,
+    x: TypeRef,
     lvl: u32,
 ) -> Result<usize, Refusal>
     ensures { out_of result text.new work.new
         ≡ put_said text.old (Ok at) (emit_values (work_naming b.now.head) (btf_of b.now.head b.now.section.now work.old)
-        (value_text (is_wide t) (flag_of t.info)) id lvl 0 (enum_values b.now.head b.now.section.now t) work.old) }
+        (value_text (is_wide x.t) (flag_of x.t.info)) x.id lvl 0 (enum_values b.now.head b.now.section.now x.t) work.old) }
 {
-    let values = entries_of(t);
-    let is_signed = kind_flag_of(t.info);
-    let wide = is_wide(t);
-    let size = value_size(wide);
-    let first = get_field(work, id, cell::FIRST_ENUMERATOR);
-    let mut place = member_place(values, 0);
+    let values = entries_of(x.t);
+    let is_signed = kind_flag_of(x.t.info);
+    let wide = is_wide(x.t);
+    let first = get_field(work, x.id, cell::FIRST_ENUMERATOR);
     let mut p = at;
     for k in 0..values.vlen {
-        let name_off = b.word(place);
+        let name_off = b.word(value_place(values, wide, k));
         let e = first.saturating_add(k);
         let a = emit_enumerator(b, work, text, p, e, name_off, lvl)?;
         let c = emit_value(b, text, a, wide, is_signed, values, k)?;
         p = put_byte(text, c, b',')?;
-        place += size;
     }
     Ok(p)
 }
@@ -114,24 +114,23 @@ pub fn emit_enum_def(
     work: &mut [u8],
     text: &mut [u8],
     at: usize,
-    id: u32,
-    t: BtfType,
+    x: TypeRef,
     lvl: u32,
 ) -> Result<usize, Refusal>
     ensures { out_of result text.new work.new
         ≡ put_said text.old (Ok at) (emit_enum_def (work_naming b.now.head) (btf_of b.now.head b.now.section.now work.old)
-        (value_text (is_wide t) (flag_of t.info)) id (str_at b.now.head b.now.section.now t.name_off)
-        (enum_values b.now.head b.now.section.now t) lvl work.old) }
+        (value_text (is_wide x.t) (flag_of x.t.info)) x.id (str_at b.now.head b.now.section.now x.t.name_off)
+        (enum_values b.now.head b.now.section.now x.t) lvl work.old) }
 {
-    if b.is_builtin(t.name_off) {
+    if b.is_builtin(x.t.name_off) {
         return Ok(at);
     }
-    let a = emit_enum_head(b, work, text, at, id, t.name_off)?;
-    let values = entries_of(t);
+    let a = emit_enum_head(b, work, text, at, x.id, x.t.name_off)?;
+    let values = entries_of(x.t);
     if values.vlen == 0 {
         return Ok(a);
     }
     let c = put_bytes(text, a, b" {")?;
-    let d = emit_values(b, work, text, c, id, t, deeper(lvl))?;
+    let d = emit_values(b, work, text, c, x, deeper(lvl))?;
     emit_enum_end(text, d, lvl)
 }

@@ -15,23 +15,23 @@ use spec_type_table::Kind;
 pub fn put_qualifier(text: &mut [u8], at: usize, kind: Kind) -> Result<usize, Refusal>
     ensures { put_out result text.new ≡ put_text text.old (Ok at) (whole (qualifier (qualifier_of kind))) }
 {
-    match kind {
-        Kind::Volatile => put_word(text, at, Word::Volatile),
-        Kind::Const => put_word(text, at, Word::Const),
-        _ => put_word(text, at, Word::Restrict),
-    }
+    let word = match kind {
+        Kind::Volatile => Word::Volatile,
+        Kind::Const => Word::Const,
+        _ => Word::Restrict,
+    };
+    put_word(text, at, word)
 }
 
 // How many of n entries stay when the qualifiers on top are popped.
 pub fn skip_mods(b: &Table, work: &[u8], start: u32, n: u32) -> u32
     ensures { (result ≡ skipped b.now.head b.now.section.now work.now start n) × (result ≤ n) }
 {
-    for k in (0..n).rev() {
-        if !is_qualifier(kind_at(b, work, start, k)) {
-            return k + 1;
-        }
-    }
-    0
+    let stays = |k: &u32| !is_qualifier(kind_at(b, work, start, *k));
+    let Some(top) = (0..n).rev().find(stays) else {
+        return 0;
+    };
+    top + 1
 }
 
 // Prints the qualifiers on top of n entries, each with a space after it, down to the first m.

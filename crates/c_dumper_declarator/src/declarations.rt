@@ -1,19 +1,21 @@
 // Declarations, their chains and the bodies of composites, which call each other. `left` is how many more calls of
 // emit_type_decl, emit_based, emit_type_chain and emit_composite_def may be open; `below` is that for the calls within one of them.
+// (LeadOn is asked by each: the records of a chain stand in the section and the work, which is written here, so no type can say it.)
 mod members;
 
 ghost use Rattle.spec_bytes.specs.text.Placed.{placed};
 ghost use Rattle.std.specs.Prelude.{[], ◌≡◌, true, false, ◌≤◌, ◌<◌, ◌-◌, ◌+◌, eqb, leb, ◌∷◌, Ok, IfOk};
 ghost use Rattle.spec_c_dumper.specs.rules.Writer.{put, ◌⨾◌};
 ghost use Rattle.spec_c_dumper.specs.rules.Types.{Composite};
-ghost use Rattle.spec_c_dumper.specs.rules.Decl.{base, mods, no_mods, shown_params};
+ghost use Rattle.spec_c_dumper.specs.rules.Decl as entry;
+ghost use Rattle.spec_c_dumper.specs.rules.Decl.{mods, no_mods, shown_params};
 ghost use Rattle.spec_c_dumper.specs.alignment_once.Writers.{emit_type_decl_once, emit_type_chain_once};
 ghost use Rattle.btf_layout.specs.asked.Asked.{work_asks};
 ghost use Rattle.spec_c_dumper.specs.rules.Place.{out_of, put_said};
 ghost use Rattle.spec_type_table.specs.Records.{kind_of, record_by_id};
 ghost use Rattle.spec_type_table.specs.Table.{from, param_of, params_of, members_of, record_name, type_of, btf_of, work_naming};
 ghost use Rattle.c_dumper_name_versions.specs.names.Spelling.{name_text};
-ghost use Rattle.c_dumper_bodies.specs.chain.Chains.{chain_at, only_links};
+ghost use Rattle.c_dumper_bodies.specs.chain.Chains.{chain_at, LeadOn};
 ghost use Rattle.c_dumper_bodies.specs.bodies.Pieces.{word_below, params_below, array_below};
 ghost use Rattle.c_dumper_bodies.specs.bodies.Pieces.{proto_below};
 ghost use Rattle.c_dumper_declarator.specs.declarations.Rests.{RestIs};
@@ -24,6 +26,7 @@ use base_bytes::put::{put_byte, put_bytes};
 use base_bytes::refusal::Refusal;
 use base_keywords::table::{Word, put_word};
 use btf_type_table::kind::{entries_of, is_struct, kind_flag_of, param_place};
+use btf_type_table::node::TypeRef;
 use btf_type_table::table::Table;
 use c_dumper_bodies::bodies::{
     emit_enum_word, is_any_more, put_comma, put_count, put_gap, put_star, put_type_tag,
@@ -74,8 +77,8 @@ pub fn emit_type_decl(
     if left == 0 {
         return Err(Refusal::TooDeep);
     }
-    let x = chain_base(b, work, d.id).ok_or(Refusal::TooDeep)?;
-    emit_based(b, work, text, at, d, x, left - 1)
+    let base = chain_base(b, work, d.id).ok_or(Refusal::TooDeep)?;
+    emit_based(b, work, text, at, d, base, left - 1)
 }
 
 // A chain with its base on top. Most have nothing else, and then the name follows.
@@ -86,29 +89,32 @@ fn emit_based(
     text: &mut [u8],
     at: usize,
     d: Declarator,
-    x: Base,
+    base: Base,
     left: u32,
 ) -> Result<usize, Refusal>
-    requires { (x.t ≡ record_by_id b.now.head b.now.section.now work.old x.id)
-        × (only_links (chain_at b.now.head b.now.section.now work.old d.id x.n) ≡ true) }
+    requires { (base.x.t ≡ record_by_id b.now.head b.now.section.now work.old base.x.id)
+        × LeadOn b.now.head b.now.section.now work.old d.id base.n }
     ensures { out_of result text.new work.new
         ≡ put_said text.old (Ok at) (emit_type_chain_once (work_asks b.now.head.types (btf_of b.now.head b.now.section.now work.old))
         (work_naming b.now.head) (btf_of b.now.head b.now.section.now work.old) left
-        (base x.id ∷ chain_at b.now.head b.now.section.now work.old d.id x.n) (name_text b.now.head b.now.section.now d.name)
+        (entry.base base.x.id ∷ chain_at b.now.head b.now.section.now work.old d.id base.n) (name_text b.now.head b.now.section.now d.name)
         d.lvl work.old) }
 {
     if left == 0 {
         return Err(Refusal::TooDeep);
     }
     let below = left - 1;
-    let m = skip_mods(b, work, d.id, x.n);
-    let a = emit_mods(b, work, text, at, d.id, x.n, m)?;
-    let e = emit_base(b, work, text, a, x.id, x.t, d.lvl, below)?;
+    let m = skip_mods(b, work, d.id, base.n);
+    let a = emit_mods(b, work, text, at, d.id, base.n, m)?;
+    let e = emit_base(b, work, text, a, base.x, d.lvl, below)?;
     if m == 0 {
-        let name = d.name;
-        return emit_name(b, text, e, name, false);
+        return emit_name(b, text, e, d.name, false);
     }
-    emit_links(b, work, text, e, d, m, false, below)
+    let c = Rest {
+        n: m,
+        last_was_ptr: false,
+    };
+    emit_links(b, work, text, e, d, c, below)
 }
 
 // A chain of entries that all lead on.
@@ -122,7 +128,7 @@ fn emit_type_chain(
     n: u32,
     left: u32,
 ) -> Result<usize, Refusal>
-    requires { only_links (chain_at b.now.head b.now.section.now work.old d.id n) ≡ true }
+    requires { LeadOn b.now.head b.now.section.now work.old d.id n }
     ensures { out_of result text.new work.new
         ≡ put_said text.old (Ok at) (emit_type_chain_once (work_asks b.now.head.types (btf_of b.now.head b.now.section.now work.old))
         (work_naming b.now.head) (btf_of b.now.head b.now.section.now work.old) left
@@ -132,7 +138,11 @@ fn emit_type_chain(
     if left == 0 {
         return Err(Refusal::TooDeep);
     }
-    emit_links(b, work, text, at, d, n, true, left - 1)
+    let c = Rest {
+        n,
+        last_was_ptr: true,
+    };
+    emit_links(b, work, text, at, d, c, left - 1)
 }
 
 // What is left of it: entry by entry, and then the name.
@@ -143,29 +153,27 @@ fn emit_links(
     text: &mut [u8],
     at: usize,
     d: Declarator,
-    n: u32,
-    last_was_ptr: bool,
+    c: Rest,
     below: u32,
 ) -> Result<usize, Refusal>
-    requires { only_links (chain_at b.now.head b.now.section.now work.old d.id n) ≡ true }
+    requires { LeadOn b.now.head b.now.section.now work.old d.id c.n }
     ensures { out_of result text.new work.new
         ≡ put_said text.old (Ok at) (chain_rest (work_asks b.now.head.types (btf_of b.now.head b.now.section.now work.old))
         (work_naming b.now.head) (btf_of b.now.head b.now.section.now work.old) below (name_text b.now.head b.now.section.now d.name) d.lvl
-        false last_was_ptr (chain_at b.now.head b.now.section.now work.old d.id n) work.old) }
+        false c.last_was_ptr (chain_at b.now.head b.now.section.now work.old d.id c.n) work.old) }
 {
     let mut p = at;
-    let mut c = Rest { n, last_was_ptr };
+    let mut rest = c;
     // A `while`: an entry says how many are left, since a function or an array takes some with it.
-    while 0 < c.n {
-        let e = emit_entry(b, work, text, p, c, d, below)?;
+    while 0 < rest.n {
+        let e = emit_entry(b, work, text, p, d, rest, below)?;
         p = e.at;
-        let Some(rest) = e.rest else {
+        let Some(left) = e.rest else {
             return Ok(p);
         };
-        c = rest;
+        rest = left;
     }
-    let name = d.name;
-    emit_name(b, text, p, name, c.last_was_ptr)
+    emit_name(b, text, p, d.name, rest.last_was_ptr)
 }
 
 // The chain goes on from a place with n entries.
@@ -192,11 +200,11 @@ fn emit_entry(
     work: &mut [u8],
     text: &mut [u8],
     at: usize,
-    c: Rest,
     d: Declarator,
+    c: Rest,
     below: u32,
 ) -> Result<Stand, Refusal>
-    requires { (0 < c.n) × (only_links (chain_at b.now.head b.now.section.now work.old d.id c.n) ≡ true) }
+    requires { (0 < c.n) × LeadOn b.now.head b.now.section.now work.old d.id c.n }
     ensures { (out_of (placed (λ s. s.at) result) text.new work.new
         ≡ put_said text.old (Ok at)
         (entry_text (work_asks b.now.head.types (btf_of b.now.head b.now.section.now work.old)) (work_naming b.now.head)
@@ -215,7 +223,7 @@ fn emit_entry(
         Kind::Array => {
             let nelems = b.array_nelems(t);
             let m = skip_mods(b, work, d.id, n);
-            let a = emit_array(b, work, text, at, d, m, c.last_was_ptr, below)?;
+            let a = emit_array(b, work, text, at, d, Rest { n: m, ..c }, below)?;
             let e = put_count(text, a, nelems)?;
             Ok(named(e))
         }
@@ -225,7 +233,7 @@ fn emit_entry(
             Ok(goes_on(e, n, false))
         }
         Kind::FuncProto => {
-            let a = emit_function(b, work, text, at, c, d, t, below)?;
+            let a = emit_function(b, work, text, at, d, c, t, below)?;
             Ok(named(a))
         }
         _ => {
@@ -244,12 +252,12 @@ fn emit_function(
     work: &mut [u8],
     text: &mut [u8],
     at: usize,
-    c: Rest,
     d: Declarator,
+    c: Rest,
     t: BtfType,
     below: u32,
 ) -> Result<usize, Refusal>
-    requires { (0 < c.n) × (only_links (chain_at b.now.head b.now.section.now work.old d.id c.n) ≡ true) }
+    requires { (0 < c.n) × LeadOn b.now.head b.now.section.now work.old d.id c.n }
     ensures { out_of result text.new work.new
         ≡ put_said text.old (Ok at)
         ((put (mods (chain_at b.now.head b.now.section.now work.old d.id (c.n - 1)))
@@ -263,7 +271,7 @@ fn emit_function(
     let n = c.n - 1;
     let m = skip_mods(b, work, d.id, n);
     let a = emit_mods(b, work, text, at, d.id, n, m)?;
-    let f = emit_proto(b, work, text, a, d, m, c.last_was_ptr, below)?;
+    let f = emit_proto(b, work, text, a, d, Rest { n: m, ..c }, below)?;
     emit_params(b, work, text, f, entries_of(t), d.lvl, below)
 }
 
@@ -274,25 +282,24 @@ fn emit_base(
     work: &mut [u8],
     text: &mut [u8],
     at: usize,
-    id: u32,
-    t: BtfType,
+    x: TypeRef,
     lvl: u32,
     below: u32,
 ) -> Result<usize, Refusal>
     ensures { out_of result text.new work.new
         ≡ put_said text.old (Ok at) (word_below (work_asks b.now.head.types (btf_of b.now.head b.now.section.now work.old))
-        (work_naming b.now.head) (btf_of b.now.head b.now.section.now work.old) below lvl id (type_of b.now.head b.now.section.now t)
+        (work_naming b.now.head) (btf_of b.now.head b.now.section.now work.old) below lvl x.id (type_of b.now.head b.now.section.now x.t)
         work.old) }
 {
-    match Kind::of(t.info) {
-        Kind::Int | Kind::Float => b.put_str(text, at, t.name_off),
-        Kind::Struct | Kind::Union => emit_composite_word(b, work, text, at, id, t, lvl, below),
-        Kind::Enum | Kind::Enum64 => emit_enum_word(b, work, text, at, id, t, lvl),
+    match Kind::of(x.t.info) {
+        Kind::Int | Kind::Float => b.put_str(text, at, x.t.name_off),
+        Kind::Struct | Kind::Union => emit_composite_word(b, work, text, at, x, lvl, below),
+        Kind::Enum | Kind::Enum64 => emit_enum_word(b, work, text, at, x, lvl),
         Kind::Fwd => {
-            let is_union = kind_flag_of(t.info);
-            emit_fwd_def(b, work, text, at, id, is_union, t.name_off)
+            let is_union = kind_flag_of(x.t.info);
+            emit_fwd_def(b, work, text, at, x.id, is_union, x.t.name_off)
         }
-        Kind::Typedef => put_typedef_name(b, work, text, at, id, t.name_off),
+        Kind::Typedef => put_typedef_name(b, work, text, at, x.id, x.t.name_off),
         Kind::Void | Kind::Unknown => put_word(text, at, Word::Void),
         _ => Ok(at),
     }
@@ -305,25 +312,25 @@ fn emit_composite_word(
     work: &mut [u8],
     text: &mut [u8],
     at: usize,
-    id: u32,
-    t: BtfType,
+    x: TypeRef,
     lvl: u32,
     below: u32,
 ) -> Result<usize, Refusal>
     ensures { out_of result text.new work.new
         ≡ put_said text.old (Ok at) (word_below (work_asks b.now.head.types (btf_of b.now.head b.now.section.now work.old))
-        (work_naming b.now.head) (btf_of b.now.head b.now.section.now work.old) below lvl id
-        (Composite (eqb (kind_of t.info) 4) (record_name b.now.head b.now.section.now t) t.type_id
-        (members_of b.now.head b.now.section.now t))
+        (work_naming b.now.head) (btf_of b.now.head b.now.section.now work.old) below lvl x.id
+        (Composite (eqb (kind_of x.t.info) 4) (record_name b.now.head b.now.section.now x.t) x.t.type_id
+        (members_of b.now.head b.now.section.now x.t))
         work.old) }
 {
-    if b.is_empty(t.name_off) {
-        return emit_composite_def(b, work, text, at, id, t, lvl, below);
+    if b.is_empty(x.t.name_off) {
+        return emit_composite_def(b, work, text, at, x, lvl, below);
     }
-    emit_composite_fwd(b, work, text, at, id, is_struct(t), t.name_off)
+    emit_composite_fwd(b, work, text, at, x.id, is_struct(x.t), x.t.name_off)
 }
 
-// What stands before the brackets of an array: the name, or the chain that is left.
+// What stands before the brackets of an array: the name, or the chain that is left. (It ends as emit_proto does, by two calls; shared, they
+// would be one more function that takes all that these take.)
 #[cycle(declarator)]
 fn emit_array(
     b: &Table,
@@ -331,27 +338,25 @@ fn emit_array(
     text: &mut [u8],
     at: usize,
     d: Declarator,
-    n: u32,
-    last_was_ptr: bool,
+    c: Rest,
     below: u32,
 ) -> Result<usize, Refusal>
-    requires { only_links (chain_at b.now.head b.now.section.now work.old d.id n) ≡ true }
+    requires { LeadOn b.now.head b.now.section.now work.old d.id c.n }
     ensures { out_of result text.new work.new
         ≡ put_said text.old (Ok at) (array_below (work_asks b.now.head.types (btf_of b.now.head b.now.section.now work.old))
         (work_naming b.now.head) (btf_of b.now.head b.now.section.now work.old) below (name_text b.now.head b.now.section.now d.name) d.lvl
-        last_was_ptr (chain_at b.now.head b.now.section.now work.old d.id n) work.old) }
+        c.last_was_ptr (chain_at b.now.head b.now.section.now work.old d.id c.n) work.old) }
 {
-    let name = d.name;
-    if n == 0 {
-        return emit_name(b, text, at, name, last_was_ptr);
+    if c.n == 0 {
+        return emit_name(b, text, at, d.name, c.last_was_ptr);
     }
-    let a = put_gap(b, text, at, name, last_was_ptr)?;
-    match kind_at(b, work, d.id, n - 1) {
-        Kind::Array => emit_type_chain(b, work, text, a, d, n, below),
+    let a = put_gap(b, text, at, d.name, c.last_was_ptr)?;
+    match kind_at(b, work, d.id, c.n - 1) {
+        Kind::Array => emit_type_chain(b, work, text, a, d, c.n, below),
         _ => {
-            let c = put_byte(text, a, b'(')?;
-            let e = emit_type_chain(b, work, text, c, d, n, below)?;
-            put_byte(text, e, b')')
+            let e = put_byte(text, a, b'(')?;
+            let f = emit_type_chain(b, work, text, e, d, c.n, below)?;
+            put_byte(text, f, b')')
         }
     }
 }
@@ -364,23 +369,21 @@ fn emit_proto(
     text: &mut [u8],
     at: usize,
     d: Declarator,
-    n: u32,
-    last_was_ptr: bool,
+    c: Rest,
     below: u32,
 ) -> Result<usize, Refusal>
-    requires { only_links (chain_at b.now.head b.now.section.now work.old d.id n) ≡ true }
+    requires { LeadOn b.now.head b.now.section.now work.old d.id c.n }
     ensures { out_of result text.new work.new
         ≡ put_said text.old (Ok at) (proto_below (work_asks b.now.head.types (btf_of b.now.head b.now.section.now work.old))
         (work_naming b.now.head) (btf_of b.now.head b.now.section.now work.old) below (name_text b.now.head b.now.section.now d.name) d.lvl
-        last_was_ptr (chain_at b.now.head b.now.section.now work.old d.id n) work.old) }
+        c.last_was_ptr (chain_at b.now.head b.now.section.now work.old d.id c.n) work.old) }
 {
-    if n == 0 {
-        let name = d.name;
-        return emit_name(b, text, at, name, last_was_ptr);
+    if c.n == 0 {
+        return emit_name(b, text, at, d.name, c.last_was_ptr);
     }
     let a = put_bytes(text, at, b" (")?;
-    let c = emit_type_chain(b, work, text, a, d, n, below)?;
-    put_byte(text, c, b')')
+    let e = emit_type_chain(b, work, text, a, d, c.n, below)?;
+    put_byte(text, e, b')')
 }
 
 // The parameters in parentheses.
@@ -425,7 +428,7 @@ fn emit_param(
         (btf_of b.now.head b.now.section.now work.old) below id name lvl) (eqb k 0) (param_of b.now.head b.now.section.now params.at k)
         (leb params.vlen (k + 1)) work.old) }
 {
-    let p = param_place(params, k);
+    let p = param_place(params.at, k);
     let type_id = b.word(p + 4);
     let d = Declarator {
         id: type_id,

@@ -13,10 +13,11 @@ use base_bytes::limit;
 use base_bytes::put::put_bytes;
 use base_bytes::refusal::Refusal;
 use btf_type_table::kind::{is_struct, kind_flag_of};
+use btf_type_table::node::TypeRef;
 use btf_type_table::table::Table;
 use c_dumper_bodies::enums::emit_enum_def;
 use c_dumper_name_versions::forwards::{emit_composite_fwd, emit_fwd_def};
-use spec_type_table::{BtfType, Kind};
+use spec_type_table::Kind;
 
 fn put_line_end(text: &mut [u8], at: usize) -> Result<usize, Refusal>
     ensures { put_out result text.new ≡ put_text text.old (Ok at) (whole (ascii ";\n\n")) }
@@ -30,25 +31,24 @@ pub fn emit_definition(
     work: &mut [u8],
     text: &mut [u8],
     at: usize,
-    id: u32,
-    t: BtfType,
+    x: TypeRef,
 ) -> Result<usize, Refusal>
     ensures { out_of result text.new work.new
         ≡ put_said text.old (Ok at) (definition_once (work_asks b.now.head.types (btf_of b.now.head b.now.section.now work.old))
-        (work_naming b.now.head) (btf_of b.now.head b.now.section.now work.old) id (type_of b.now.head b.now.section.now t) work.old) }
+        (work_naming b.now.head) (btf_of b.now.head b.now.section.now work.old) x.id (type_of b.now.head b.now.section.now x.t) work.old) }
 {
-    match Kind::of(t.info) {
+    match Kind::of(x.t.info) {
         Kind::Struct | Kind::Union => {
-            let a = emit_composite_def(b, work, text, at, id, t, 0, limit::MOST_CALLS)?;
+            let a = emit_composite_def(b, work, text, at, x, 0, limit::MOST_CALLS)?;
             put_line_end(text, a)
         }
         Kind::Enum | Kind::Enum64 => {
-            let a = emit_enum_def(b, work, text, at, id, t, 0)?;
+            let a = emit_enum_def(b, work, text, at, x, 0)?;
             put_line_end(text, a)
         }
         Kind::Fwd => {
-            let is_union = kind_flag_of(t.info);
-            let a = emit_fwd_def(b, work, text, at, id, is_union, t.name_off)?;
+            let is_union = kind_flag_of(x.t.info);
+            let a = emit_fwd_def(b, work, text, at, x.id, is_union, x.t.name_off)?;
             put_line_end(text, a)
         }
         _ => Ok(at),
@@ -61,23 +61,22 @@ pub fn emit_forward(
     work: &mut [u8],
     text: &mut [u8],
     at: usize,
-    id: u32,
-    t: BtfType,
+    x: TypeRef,
 ) -> Result<usize, Refusal>
     ensures { out_of result text.new work.new
         ≡ put_said text.old (Ok at) (forward_once (work_asks b.now.head.types (btf_of b.now.head b.now.section.now work.old))
-        (work_naming b.now.head) (btf_of b.now.head b.now.section.now work.old) id (type_of b.now.head b.now.section.now t) work.old) }
+        (work_naming b.now.head) (btf_of b.now.head b.now.section.now work.old) x.id (type_of b.now.head b.now.section.now x.t) work.old) }
 {
-    if b.is_builtin(t.name_off) {
+    if b.is_builtin(x.t.name_off) {
         return Ok(at);
     }
-    match Kind::of(t.info) {
+    match Kind::of(x.t.info) {
         Kind::Struct | Kind::Union => {
-            let a = emit_composite_fwd(b, work, text, at, id, is_struct(t), t.name_off)?;
+            let a = emit_composite_fwd(b, work, text, at, x.id, is_struct(x.t), x.t.name_off)?;
             put_line_end(text, a)
         }
         Kind::Typedef => {
-            let a = emit_typedef_def(b, work, text, at, id, t.name_off, t.type_id)?;
+            let a = emit_typedef_def(b, work, text, at, x)?;
             put_line_end(text, a)
         }
         _ => Ok(at),

@@ -11,9 +11,10 @@ use base_bytes::limit;
 use base_bytes::put::put_byte;
 use base_bytes::refusal::Refusal;
 use base_keywords::table::{Word, put_word};
+use btf_type_table::node::TypeRef;
 use btf_type_table::table::Table;
 use c_dumper_name_versions::names::resolve_type_name;
-use c_dumper_name_versions::tags::{WHOLE_TYPE, emit_decl_tags};
+use c_dumper_name_versions::tags::emit_decl_tags;
 
 // A typedef's line, without its end. The compiler's own type has none: see the caller.
 pub fn emit_typedef_def(
@@ -21,23 +22,21 @@ pub fn emit_typedef_def(
     work: &mut [u8],
     text: &mut [u8],
     at: usize,
-    id: u32,
-    name_off: u32,
-    type_id: u32,
+    x: TypeRef,
 ) -> Result<usize, Refusal>
     ensures { out_of result text.new work.new
         ≡ put_said text.old (Ok at) (emit_typedef_def_once (work_asks b.now.head.types (btf_of b.now.head b.now.section.now work.old))
-        (work_naming b.now.head) (btf_of b.now.head b.now.section.now work.old) id (str_at b.now.head b.now.section.now name_off) type_id
-        work.old) }
+        (work_naming b.now.head) (btf_of b.now.head b.now.section.now work.old) x.id
+        (str_at b.now.head b.now.section.now x.t.name_off) x.t.type_id work.old) }
 {
-    let name = resolve_type_name(b, work, id, name_off);
+    let name = resolve_type_name(b, work, x.id, x.t.name_off);
     let d = Declarator {
-        id: type_id,
-        name: name,
+        id: x.t.type_id,
+        name,
         lvl: 0,
     };
     let a = put_word(text, at, Word::Typedef)?;
     let c = put_byte(text, a, b' ')?;
     let e = emit_type_decl(b, work, text, c, d, limit::MOST_CALLS)?;
-    emit_decl_tags(b, work, text, e, id, WHOLE_TYPE)
+    emit_decl_tags(b, work, text, e, x.id, None)
 }

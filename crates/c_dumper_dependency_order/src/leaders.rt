@@ -1,9 +1,20 @@
-// The leaders of the ids that ordering lists: a word for each id, beside the work.
+// The leaders of the ids that ordering lists: one for each id, beside the work.
 ghost use Rattle.std.specs.Prelude.{◌≡◌};
-ghost use Rattle.c_dumper_dependency_order.specs.leaders.Leads.{led_two, inside_of, is_noted, note_in, leader_in};
+ghost use Rattle.c_dumper_dependency_order.specs.leaders.Leads.{lead_words, led_two, inside_of, is_noted, note_in, leader_in};
 
 use base_bytes::element::{peek, store};
-use base_bytes::limit;
+
+// The leader of an id, and the request that noted it.
+#[derive(Clone, Copy)]
+pub struct Lead {
+    pub turn: u32,
+    pub lead: u32,
+}
+
+impl Lead {
+    // Requests with a list have the turns from 1 on: none has noted this.
+    pub const NONE: Lead = Lead { turn: 0, lead: 0 };
+}
 
 // The innermost composite or typedef that is being ordered, and the leader of that one; both are the requested id where
 // there is none. `turn` tells the requests of a call apart.
@@ -30,33 +41,35 @@ pub fn inside(v: Way, id: u32) -> Way
     }
 }
 
-fn is_noted(leads: &[u64], turn: u32, id: u32) -> bool
-    ensures { result ≡ is_noted turn leads.now id }
+fn is_noted(leads: &[Lead], turn: u32, id: u32) -> bool
+    ensures { result ≡ is_noted turn (lead_words leads.now) id }
 {
-    peek(leads, id as usize, 0) / limit::TWO_TO_32 == (turn as u64)
+    peek(leads, id as usize, Lead::NONE).turn == turn
 }
 
 // Notes the leader of an id, unless this request has noted one.
-pub fn note(leads: &mut [u64], v: Way, id: u32)
-    ensures { leads.new ≡ note_in v leads.old id }
+pub fn note(leads: &mut [Lead], v: Way, id: u32)
+    ensures { lead_words leads.new ≡ note_in v (lead_words leads.old) id }
 {
     if is_noted(leads, v.turn, id) {
         return;
     }
-    let lead = led_by(v, id);
     store(
         leads,
         id as usize,
-        (v.turn as u64) * limit::TWO_TO_32 + (lead as u64),
+        Lead {
+            turn: v.turn,
+            lead: led_by(v, id),
+        },
     );
 }
 
 // The leader of an id in the request for `req`.
-pub fn leader_of(leads: &[u64], req: u32, turn: u32, id: u32) -> u32
-    ensures { result ≡ leader_in req turn leads.now id }
+pub fn leader_of(leads: &[Lead], req: u32, turn: u32, id: u32) -> u32
+    ensures { result ≡ leader_in req turn (lead_words leads.now) id }
 {
     if is_noted(leads, turn, id) {
-        return (peek(leads, id as usize, 0) % limit::TWO_TO_32) as u32;
+        return peek(leads, id as usize, Lead::NONE).lead;
     }
     req
 }

@@ -8,7 +8,7 @@ use base_bytes::refusal::Refusal;
 use btf_type_table::cell;
 use btf_type_table::cell::{get_field, put_field};
 
-// How far ordering has come with a type.
+// How far ordering has come with a type, or emission. The Rust has an enum of three for each.
 #[derive(Clone, Copy, PartialEq, Eq)]
 pub enum Mark {
     New,
@@ -16,48 +16,56 @@ pub enum Mark {
     Done,
 }
 
-// The marks as words of the work; any other word is a type that is not ordered yet.
+// The marks as words of the work; any other word is a type that is new.
 const NEW: u32 = 0;
 
 const OPEN: u32 = 1;
 
 const DONE: u32 = 2;
 
-// What ordering has come to: the calls made under a ceiling, the length of the order list, the refusal that stopped it, if one
-// did, and whether the last way was strong.
+// What ordering has come to: the calls made under a ceiling, the length of the order list, and whether the last way was strong.
 #[derive(Clone, Copy)]
 pub struct Order {
     pub made: u64,
     pub len: u32,
-    pub stop: Option<Refusal>,
     pub is_strong: bool,
 }
 
-pub fn get_mark(work: &[u8], id: u32) -> Mark
-    ensures { mark_is result ≡ mark_of (get_field work.now id 1) }
+// What stopped it: a refusal, and the calls made by then.
+#[derive(Clone, Copy)]
+pub struct Halted {
+    pub refusal: Refusal,
+    pub made: u64,
+}
+
+// The mark of a type in a word of its cell: cell::ORDER_STATE, or cell::EMIT_STATE for emission.
+#[inline]
+pub fn get_mark(work: &[u8], id: u32, word: u32) -> Mark
+    ensures { mark_is result ≡ mark_of (get_field work.now id word) }
 {
-    match get_field(work, id, cell::ORDER_STATE) {
+    match get_field(work, id, word) {
         DONE => Mark::Done,
         OPEN => Mark::Open,
         _ => Mark::New,
     }
 }
 
-pub fn is_ordered(work: &[u8], id: u32) -> bool
-    ensures { result ≡ is_done (mark_of (get_field work.now id 1)) }
+#[inline]
+pub fn is_done(work: &[u8], id: u32, word: u32) -> bool
+    ensures { result ≡ is_done (mark_of (get_field work.now id word)) }
 {
-    get_mark(work, id) == Mark::Done
+    get_mark(work, id, word) == Mark::Done
 }
 
-pub fn set_mark(work: &mut [u8], id: u32, mark: Mark)
-    ensures { work.new ≡ put_field work.old id 1 (code (mark_is mark)) }
+pub fn set_mark(work: &mut [u8], id: u32, word: u32, mark: Mark)
+    ensures { work.new ≡ put_field work.old id word (code (mark_is mark)) }
 {
     let state = match mark {
         Mark::New => NEW,
         Mark::Open => OPEN,
         Mark::Done => DONE,
     };
-    put_field(work, id, cell::ORDER_STATE, state)
+    put_field(work, id, word, state)
 }
 
 // The id at a place of the order list.
@@ -73,25 +81,17 @@ pub fn set_listed(work: &mut [u8], k: u32, id: u32)
     put_field(work, k, cell::ORDER_SLOT, id)
 }
 
-// Empties a place of the order list.
-pub fn clear_listed(work: &mut [u8], k: u32)
-    ensures { work.new ≡ put_field work.old k 11 0 }
-{
-    put_field(work, k, cell::ORDER_SLOT, 0)
-}
-
 pub fn strong(o: Order, is_strong: bool) -> Order
     ensures { result ≡ strong_of o is_strong }
 {
     Order { is_strong, ..o }
 }
 
-pub fn refused(o: Order, c: Refusal) -> Order
+pub fn refused(o: Order, c: Refusal) -> Halted
     ensures { result ≡ refused_by o c }
 {
-    Order {
-        stop: Some(c),
-        is_strong: false,
-        ..o
+    Halted {
+        refusal: c,
+        made: o.made,
     }
 }

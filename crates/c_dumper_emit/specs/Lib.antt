@@ -1,3 +1,3 @@
-pub mod entries
 pub mod dump_type
-pub mod steps
+pub mod emission
+pub mod entries

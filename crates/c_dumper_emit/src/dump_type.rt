@@ -6,20 +6,22 @@ ghost use Rattle.spec_type_table.specs.Cells.{get_field};
 ghost use Rattle.spec_type_table.specs.Table.{btf_of};
 ghost use Rattle.c_dumper_dependency_order.specs.order_state.Work.{mark_of, table_in};
 ghost use Rattle.c_dumper_dependency_order.specs.begin.Start.{limit_of};
+ghost use Rattle.c_dumper_dependency_order.specs.leaders.Leads.{lead_words};
 ghost use Rattle.spec_session.specs.metered.Metered.{ordered_in};
 ghost use Rattle.spec_session.specs.emission.Sheet.{is_idle};
 ghost use Rattle.c_dumper_emit.specs.entries.Noted.{lent_list, noted_out};
 ghost use Rattle.c_dumper_emit.specs.dump_type.Kept.{with_leads, dumped_kept};
 
-use crate::emit_type::emit_ordered;
-use crate::entries::{Asked, Pen};
+use crate::emission::Emission;
+use crate::entries::Pen;
 use crate::order_list::clear_list;
 use base_bytes::limit;
 use base_bytes::refusal::Refusal;
+use btf_type_table::cell;
 use btf_type_table::table::Table;
-use c_dumper_dependency_order::leaders::Way;
+use c_dumper_dependency_order::leaders::{Lead, Way};
 use c_dumper_dependency_order::order_state::{Mark, Order, get_mark};
-use c_dumper_dependency_order::order_type::order_type;
+use c_dumper_dependency_order::order_type::Orderer;
 use spec_type_table::Kind;
 
 // A request for an id that is ordered, or is a function, a variable, a section or a tag, does nothing.
@@ -27,7 +29,7 @@ pub fn is_idle(b: &Table, work: &[u8], id: u32) -> bool
     ensures { result ≡ is_idle (mark_of (get_field work.now id 1))
         ((table_in b.now.head b.now.section.now work.now).node id) }
 {
-    match get_mark(work, id) {
+    match get_mark(work, id, cell::ORDER_STATE) {
         Mark::Done => true,
         Mark::Open => false,
         Mark::New => {
@@ -60,52 +62,47 @@ pub struct Dumped {
 // One request, after so many calls of ordering. `leads` serves the requests of a call with a list one after another: what other
 // turns noted there is not read. Without a list it may be empty.
 pub fn dump_type(
-    b: &Table,
+    o: &Orderer,
     work: &mut [u8],
     text: &mut [u8],
     list: &mut [u8],
-    leads: &mut [u64],
+    leads: &mut [Lead],
     p: Pen,
     q: Request,
     made: u64,
-    ceiling: Option<u64>,
 ) -> Dumped
-    ensures { (with_leads leads.new (noted_out 0 result.pen text.new work.new list.new)
-        ≡ obind (with_leads leads.old (noted_out 0 (Ok p) text.old work.old list.old))
-        (λ m. dumped_kept b.now.head (btf_of b.now.head b.now.section.now work.old) (lent_list q.lists list.old)
-        (limit_of ceiling) m q.req q.turn made)) × (result.made ≡ calls_made (ordered_in (btf_of b.now.head b.now.section.now work.old)
-        (limit_of ceiling) (record { work = work.old; len = 0 }) q.req made)) }
+    ensures { (with_leads (lead_words leads.new) (noted_out 0 result.pen text.new work.new list.new)
+        ≡ obind (with_leads (lead_words leads.old) (noted_out 0 (Ok p) text.old work.old list.old))
+        (λ m. dumped_kept o.now.table.head (btf_of o.now.table.head o.now.table.section.now work.old)
+        (lent_list q.lists list.old) (limit_of o.now.ceiling) m q.req q.turn made))
+        × (result.made ≡ calls_made (ordered_in (btf_of o.now.table.head o.now.table.section.now work.old)
+        (limit_of o.now.ceiling) (record { work = work.old; len = 0 }) q.req made)) }
 {
     let start = Order {
         made: made,
         len: 0,
-        stop: None,
         is_strong: false,
     };
-    let id = q.req;
     let v = Way {
-        inner: id,
-        lead: id,
+        inner: q.req,
+        lead: q.req,
         turn: q.turn,
     };
-    let most = limit::MOST_CALLS;
-    let o = order_type(b, work, leads, start, id, false, most, v, ceiling);
-    if let Some(c) = o.stop {
-        return Dumped {
-            pen: Err(c),
-            made: o.made,
-        };
-    }
-    let asked = Asked {
-        req: id,
-        turn: q.turn,
-        lists: q.lists,
+    let r = match o.order_type(work, leads, start, q.req, false, limit::MOST_CALLS, v) {
+        Ok(r) => r,
+        Err(h) => {
+            return Dumped {
+                pen: Err(h.refusal),
+                made: h.made,
+            };
+        }
+    };
+    let emission = Emission {
+        table: o.table,
+        request: q,
         leads: leads,
     };
-    let r = emit_ordered(b, work, text, list, &asked, p, o.len);
-    clear_list(work, o.len);
-    Dumped {
-        pen: r,
-        made: o.made,
-    }
+    let pen = emission.emit_ordered(work, text, list, p, r.len);
+    clear_list(work, r.len);
+    Dumped { pen, made: r.made }
 }

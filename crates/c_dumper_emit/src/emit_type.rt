@@ -2,225 +2,209 @@
 // no other id are in steps.
 ghost use Rattle.std.specs.Prelude.{◌≡◌, not, ◌&&◌, eqb, ℕ, Ok};
 ghost use Rattle.spec_c_dumper.specs.rules.Machine.{obind, eeach};
+ghost use Rattle.spec_c_dumper.specs.rules.Order.{is_done};
 ghost use Rattle.spec_type_table.specs.Cells.{get_field};
-ghost use Rattle.spec_type_table.specs.Records.{record_by_id, entries_of};
-ghost use Rattle.spec_type_table.specs.Table.{btf_of};
+ghost use Rattle.spec_type_table.specs.Records.{entries_of};
 ghost use Rattle.spec_type_table.specs.Nodes.{member_ids};
-ghost use Rattle.c_dumper_dependency_order.specs.leaders.Leads.{entry_in};
 ghost use Rattle.spec_session.specs.emission.Sheet.{sheet_store};
 ghost use Rattle.c_dumper_dependency_order.specs.entries.Entries.{entry_ids};
-ghost use Rattle.c_dumper_emit.specs.entries.Noted.{noted_out, lent_list, emit_n, new_n, composite_n, leaf_n};
+ghost use Rattle.c_dumper_dependency_order.specs.order_state.Work.{mark_of};
+ghost use Rattle.c_dumper_emit.specs.emission.At.{at_emission, IsLoaded};
+ghost use Rattle.c_dumper_emit.specs.entries.Noted.{noted_out, emit_n, new_n, composite_n, leaf_n};
 
-use crate::entries::{Asked, Cause, Pen, origin_at};
-use crate::lines::define;
-use crate::steps::{
-    EmitState, emit_again, end_composite, end_typedef, get_emit_state, inner, mention_composite,
-    set_emit_state,
-};
+use crate::emission::Emission;
+use crate::entries::{Cause, Pen};
+use crate::steps::inner;
 use base_bytes::limit;
 use base_bytes::refusal::Refusal;
+use btf_type_table::cell;
 use btf_type_table::kind::entries_of;
-use btf_type_table::table::Table;
-use c_dumper_dependency_order::entries::{Each, entry_type};
-use c_dumper_dependency_order::order_state::get_listed;
-use spec_type_table::{BtfType, Entries, Node};
+use btf_type_table::node::TypeRef;
+use c_dumper_dependency_order::entries::Held;
+use c_dumper_dependency_order::order_state::{Mark, get_listed, get_mark, is_done, set_mark};
+use spec_type_table::Node;
 
 // Whether a call would find its id emitted, and print nothing.
-fn is_done(work: &[u8], id: u32, left: u32) -> bool
-    ensures { result ≡ not (eqb left 0) && eqb (get_field work.now id 13) 2 }
+fn is_emitted(work: &[u8], id: u32, left: u32) -> bool
+    ensures { result ≡ not (eqb left 0) && is_done (mark_of (get_field work.now id 13)) }
 {
-    (left != 0) & (get_emit_state(work, id) == EmitState::Emitted)
+    left != 0 && is_done(work, id, cell::EMIT_STATE)
 }
 
-// cont is the composite or typedef that is being emitted around id, or 0 at the top. It stays a number: the top of the definitions and
-// the table's void share 0, and no composite or typedef has id 0; an Option could be Some(0), of which the definitions say nothing.
-#[cycle(emit_type)]
-pub fn emit_type(
-    b: &Table,
-    work: &mut [u8],
-    text: &mut [u8],
-    list: &mut [u8],
-    q: &Asked,
-    p: Pen,
-    id: u32,
-    cont: u32,
-    left: u32,
-) -> Result<Pen, Refusal>
-    ensures { (n : ℕ) → noted_out n result text.new work.new list.new
-        ≡ obind (noted_out n (Ok p) text.old work.old list.old)
-        (λ m. emit_n b.now.head (btf_of b.now.head b.now.section.now work.old) (lent_list q.now.lists list.old)
-        (entry_in q.now.req q.now.turn q.now.leads.now) left cont m id) }
-{
-    if left == 0 {
-        return Err(Refusal::TooDeep);
-    }
-    match get_emit_state(work, id) {
-        EmitState::Emitted => return Ok(p),
-        EmitState::Emitting => {
-            return emit_again(b, work, text, list, q, p, id, cont);
+impl Emission<'_> {
+    // cont is the composite or typedef that is being emitted around id, or 0 at the top. It stays a number: the top of the definitions
+    // and the table's void share 0, and no composite or typedef has id 0; an Option could be Some(0), of which the definitions say nothing.
+    #[cycle(emit_type)]
+    pub fn emit_type(
+        &self,
+        work: &mut [u8],
+        text: &mut [u8],
+        list: &mut [u8],
+        p: Pen,
+        id: u32,
+        cont: u32,
+        left: u32,
+    ) -> Result<Pen, Refusal>
+        ensures { (n : ℕ) → noted_out n result text.new work.new list.new
+            ≡ obind (noted_out n (Ok p) text.old work.old list.old)
+            (λ m. at_emission emit_n self.now work.old list.old left cont m id) }
+    {
+        if left == 0 {
+            return Err(Refusal::TooDeep);
         }
-        EmitState::NotEmitted => {}
-    }
-    let t = b.type_by_id(work, id);
-    if (cont == 0) & !b.is_named(t) {
-        return Err(Refusal::NamelessTypedef);
-    }
-    let rest = left - 1;
-    emit_new(b, work, text, list, q, p, id, t, cont, rest)
-}
-
-// An id that is not emitted yet.
-#[cycle(emit_type)]
-fn emit_new(
-    b: &Table,
-    work: &mut [u8],
-    text: &mut [u8],
-    list: &mut [u8],
-    q: &Asked,
-    p: Pen,
-    id: u32,
-    t: BtfType,
-    cont: u32,
-    left: u32,
-) -> Result<Pen, Refusal>
-    requires { t ≡ record_by_id b.now.head b.now.section.now work.old id }
-    ensures { (n : ℕ) → noted_out n result text.new work.new list.new
-        ≡ obind (noted_out n (Ok p) text.old work.old list.old)
-        (λ m. new_n b.now.head (btf_of b.now.head b.now.section.now work.old) (lent_list q.now.lists list.old)
-        (entry_in q.now.req q.now.turn q.now.leads.now) left cont m id) }
-{
-    match b.node_of(t) {
-        Node::Ignored | Node::Plain => Ok(p),
-        Node::Listed(fwd) => emit_leaf(b, work, text, list, q, p, id, t, cont, fwd),
-        Node::Through(_, y) | Node::Ptr(y) => {
-            emit_type(b, work, text, list, q, p, y, cont, left)
+        match get_mark(work, id, cell::EMIT_STATE) {
+            Mark::Done => return Ok(p),
+            Mark::Open => return self.emit_again(work, text, list, p, id, cont),
+            Mark::New => {}
         }
-        Node::Typedef(y) => {
-            set_emit_state(work, id, EmitState::Emitting);
-            let a = emit_type(b, work, text, list, q, p, y, id, left)?;
-            end_typedef(b, work, text, list, q, a, id, t, cont)
+        let t = self.table.type_by_id(work, id);
+        let named = self.table.is_named(t);
+        if cont == 0 && !named {
+            return Err(Refusal::NamelessTypedef);
         }
-        Node::Proto(y, ps) => {
-            let a = emit_type(b, work, text, list, q, p, y, cont, left)?;
-            let each = Each::Param;
-            emit_entries(b, work, text, list, q, a, each, ps, cont, left)
+        let x = TypeRef { id, t };
+        self.emit_new(work, text, list, p, x, cont, left - 1)
+    }
+
+    // An id that is not emitted yet.
+    #[cycle(emit_type)]
+    fn emit_new(
+        &self,
+        work: &mut [u8],
+        text: &mut [u8],
+        list: &mut [u8],
+        p: Pen,
+        x: TypeRef,
+        cont: u32,
+        left: u32,
+    ) -> Result<Pen, Refusal>
+        requires { IsLoaded self.now work.old x }
+        ensures { (n : ℕ) → noted_out n result text.new work.new list.new
+            ≡ obind (noted_out n (Ok p) text.old work.old list.old)
+            (λ m. at_emission new_n self.now work.old list.old left cont m x.id) }
+    {
+        match self.table.node_of(x.t) {
+            Node::Ignored | Node::Plain => Ok(p),
+            Node::Enum => self.emit_leaf(work, text, list, p, x, cont, false),
+            Node::Fwd => self.emit_leaf(work, text, list, p, x, cont, true),
+            Node::Array(y) | Node::Through(y) | Node::Ptr(y) => {
+                self.emit_type(work, text, list, p, y, cont, left)
+            }
+            Node::Typedef(y) => {
+                set_mark(work, x.id, cell::EMIT_STATE, Mark::Open);
+                let a = self.emit_type(work, text, list, p, y, x.id, left)?;
+                self.end_typedef(work, text, list, a, x, cont)
+            }
+            Node::Proto(y, params) => {
+                let a = self.emit_type(work, text, list, p, y, cont, left)?;
+                self.emit_entries(work, text, list, a, Held::Params(params), cont, left)
+            }
+            Node::Composite(_) => self.emit_composite(work, text, list, p, x, cont, left),
         }
-        Node::Composite(_) => { emit_composite(b, work, text, list, q, p, id, t, cont, left) }
     }
-}
 
-// A composite: at the top, or nameless, all that its members need first; else a forward line. At the top its definition.
-#[cycle(emit_type)]
-fn emit_composite(
-    b: &Table,
-    work: &mut [u8],
-    text: &mut [u8],
-    list: &mut [u8],
-    q: &Asked,
-    p: Pen,
-    id: u32,
-    t: BtfType,
-    cont: u32,
-    left: u32,
-) -> Result<Pen, Refusal>
-    requires { t ≡ record_by_id b.now.head b.now.section.now work.old id }
-    ensures { (n : ℕ) → noted_out n result text.new work.new list.new
-        ≡ obind (noted_out n (Ok p) text.old work.old list.old)
-        (λ m. composite_n b.now.head (btf_of b.now.head b.now.section.now work.old) (lent_list q.now.lists list.old)
-        (entry_in q.now.req q.now.turn q.now.leads.now) left cont (member_ids b.now.head b.now.section.now (entries_of t)) m id) }
-{
-    let named = b.is_named(t);
-    if named & (cont != 0) {
-        return mention_composite(b, work, text, list, q.lists, p, id, t, cont);
-    }
-    set_emit_state(work, id, EmitState::Emitting);
-    let within = inner(named, id, cont);
-    let each = Each::Member;
-    let ms = entries_of(t);
-    let a = emit_entries(b, work, text, list, q, p, each, ms, within, left)?;
-    end_composite(b, work, text, list, q, a, id, t, cont)
-}
-
-// The types of all entries of a record.
-#[cycle(emit_type)]
-fn emit_entries(
-    b: &Table,
-    work: &mut [u8],
-    text: &mut [u8],
-    list: &mut [u8],
-    q: &Asked,
-    p: Pen,
-    each: Each,
-    es: Entries,
-    cont: u32,
-    left: u32,
-) -> Result<Pen, Refusal>
-    ensures { (n : ℕ) → noted_out n result text.new work.new list.new
-        ≡ obind (noted_out n (Ok p) text.old work.old list.old)
-        (λ m. eeach
-        (emit_n b.now.head (btf_of b.now.head b.now.section.now work.old) (lent_list q.now.lists list.old)
-        (entry_in q.now.req q.now.turn q.now.leads.now) left cont) (entry_ids b.now.head b.now.section.now each es) m) }
-{
-    let mut a = p;
-    for k in 0..es.vlen {
-        let t = entry_type(b, es, each, k);
-        if is_done(work, t, left) {
-            continue;
+    // A composite: at the top, or nameless, all that its members need first; else a forward line. At the top its definition.
+    #[cycle(emit_type)]
+    fn emit_composite(
+        &self,
+        work: &mut [u8],
+        text: &mut [u8],
+        list: &mut [u8],
+        p: Pen,
+        x: TypeRef,
+        cont: u32,
+        left: u32,
+    ) -> Result<Pen, Refusal>
+        requires { IsLoaded self.now work.old x }
+        ensures { (n : ℕ) → noted_out n result text.new work.new list.new
+            ≡ obind (noted_out n (Ok p) text.old work.old list.old)
+            (λ m. at_emission composite_n self.now work.old list.old left cont
+            (member_ids self.now.table.head self.now.table.section.now (entries_of x.t)) m x.id) }
+    {
+        let named = self.table.is_named(x.t);
+        if named && cont != 0 {
+            return self.mention_composite(work, text, list, p, x, cont);
         }
-        a = emit_type(b, work, text, list, q, a, t, cont, left)?;
+        set_mark(work, x.id, cell::EMIT_STATE, Mark::Open);
+        let within = inner(named, x.id, cont);
+        let members = entries_of(x.t);
+        let a = self.emit_entries(work, text, list, p, Held::Members(members), within, left)?;
+        self.end_composite(work, text, list, a, x, cont)
     }
-    Ok(a)
-}
 
-// An enum is defined at the top only; a forward is printed wherever it is met.
-fn emit_leaf(
-    b: &Table,
-    work: &mut [u8],
-    text: &mut [u8],
-    list: &mut [u8],
-    q: &Asked,
-    p: Pen,
-    id: u32,
-    t: BtfType,
-    cont: u32,
-    fwd: bool,
-) -> Result<Pen, Refusal>
-    requires { t ≡ record_by_id b.now.head b.now.section.now work.old id }
-    ensures { (n : ℕ) → noted_out n result text.new work.new list.new
-        ≡ obind (noted_out n (Ok p) text.old work.old list.old)
-        (λ m. leaf_n b.now.head (btf_of b.now.head b.now.section.now work.old) (lent_list q.now.lists list.old)
-        (entry_in q.now.req q.now.turn q.now.leads.now) fwd cont m id) }
-{
-    if fwd | (cont == 0) {
-        let e = origin_at(q, Cause::ForwardLine, id, cont);
-        let a = define(b, work, text, list, q.lists, p, id, t, e)?;
-        set_emit_state(work, id, EmitState::Emitted);
-        return Ok(a);
+    // The types of all entries of a record.
+    #[cycle(emit_type)]
+    fn emit_entries(
+        &self,
+        work: &mut [u8],
+        text: &mut [u8],
+        list: &mut [u8],
+        p: Pen,
+        entries: Held,
+        cont: u32,
+        left: u32,
+    ) -> Result<Pen, Refusal>
+        ensures { (n : ℕ) → noted_out n result text.new work.new list.new
+            ≡ obind (noted_out n (Ok p) text.old work.old list.old)
+            (λ m. eeach (at_emission emit_n self.now work.old list.old left cont)
+            (entry_ids self.now.table.head self.now.table.section.now entries) m) }
+    {
+        let mut a = p;
+        for k in 0..entries.count() {
+            let t = entries.entry_type(&self.table, k);
+            if is_emitted(work, t, left) {
+                continue;
+            }
+            a = self.emit_type(work, text, list, a, t, cont, left)?;
+        }
+        Ok(a)
     }
-    set_emit_state(work, id, EmitState::Emitted);
-    Ok(p)
-}
 
-// Emits the first n ids of the order list, each at the top.
-pub fn emit_ordered(
-    b: &Table,
-    work: &mut [u8],
-    text: &mut [u8],
-    list: &mut [u8],
-    q: &Asked,
-    p: Pen,
-    n: u32,
-) -> Result<Pen, Refusal>
-    ensures { noted_out n result text.new work.new list.new
-        ≡ obind (noted_out n (Ok p) text.old work.old list.old)
-        (λ m. eeach
-        (emit_n b.now.head (btf_of b.now.head b.now.section.now work.old) (lent_list q.now.lists list.old)
-        (entry_in q.now.req q.now.turn q.now.leads.now) 512 0) (sheet_store.list m.mach) m) }
-{
-    let mut a = p;
-    for k in 0..n {
-        let id = get_listed(work, k);
-        a = emit_type(b, work, text, list, q, a, id, 0, limit::MOST_CALLS)?;
+    // An enum is defined at the top only; a forward is printed wherever it is met. The three lines that define and mark are those of
+    // end_composite too: the entries differ, and one function of both would have a contract as long as theirs.
+    fn emit_leaf(
+        &self,
+        work: &mut [u8],
+        text: &mut [u8],
+        list: &mut [u8],
+        p: Pen,
+        x: TypeRef,
+        cont: u32,
+        fwd: bool,
+    ) -> Result<Pen, Refusal>
+        requires { IsLoaded self.now work.old x }
+        ensures { (n : ℕ) → noted_out n result text.new work.new list.new
+            ≡ obind (noted_out n (Ok p) text.old work.old list.old)
+            (λ m. at_emission leaf_n self.now work.old list.old fwd cont m x.id) }
+    {
+        if fwd || cont == 0 {
+            let e = self.origin_at(Cause::ForwardLine, x.id, cont);
+            let a = self.define(work, text, list, p, x, e)?;
+            set_mark(work, x.id, cell::EMIT_STATE, Mark::Done);
+            return Ok(a);
+        }
+        set_mark(work, x.id, cell::EMIT_STATE, Mark::Done);
+        Ok(p)
     }
-    Ok(a)
+
+    // Emits the first n ids of the order list, each at the top.
+    pub fn emit_ordered(
+        &self,
+        work: &mut [u8],
+        text: &mut [u8],
+        list: &mut [u8],
+        p: Pen,
+        n: u32,
+    ) -> Result<Pen, Refusal>
+        ensures { noted_out n result text.new work.new list.new
+            ≡ obind (noted_out n (Ok p) text.old work.old list.old)
+            (λ m. eeach (at_emission emit_n self.now work.old list.old 512 0) (sheet_store.list m.mach) m) }
+    {
+        let mut a = p;
+        for k in 0..n {
+            let id = get_listed(work, k);
+            a = self.emit_type(work, text, list, a, id, 0, limit::MOST_CALLS)?;
+        }
+        Ok(a)
+    }
 }

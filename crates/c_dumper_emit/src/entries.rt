@@ -1,16 +1,19 @@
 // The entry of a line in the lent list: three words, before any other step of the line.
 ghost use Rattle.std.specs.Prelude.{◌≡◌, List, ℕ, ◌<◌, ◌/◌, length, Ok};
 ghost use Rattle.spec_c_dumper.specs.rules.Machine.{obind};
-ghost use Rattle.spec_type_table.specs.Table.{type_of};
 ghost use Rattle.spec_c_dumper.specs.origins.Causes.{entry, cause_at, entries_in};
-ghost use Rattle.c_dumper_dependency_order.specs.leaders.Leads.{entry_in};
-ghost use Rattle.c_dumper_emit.specs.entries.Noted.{cause_code, entry_of, entry_put, noted_out, note_n, note_if_n, shown_of};
+ghost use Rattle.c_dumper_dependency_order.specs.leaders.Leads.{lead_words, entry_in};
+ghost use Rattle.c_dumper_emit.specs.entries.Noted.{cause_code, entry_of, entry_put, noted_out, note_n, note_if_n};
 
+use crate::emission::Emission;
 use base_bytes::refusal::Refusal;
 use base_bytes::word::put_word;
-use btf_type_table::table::Table;
 use c_dumper_dependency_order::leaders::leader_of;
-use spec_type_table::BtfType;
+
+// An entry of the lent list.
+const ENTRY_WORDS: usize = 3;
+
+const ENTRY_BYTES: usize = 4 * ENTRY_WORDS;
 
 // The next place in the text, and how many entries the list has.
 #[derive(Clone, Copy)]
@@ -44,44 +47,38 @@ pub struct Origin {
     pub leader: u32,
 }
 
-// A request in emission, with the leaders that ordering noted for it.
-#[derive(Clone, Copy)]
-pub struct Asked<'a> {
-    pub req: u32,
-    pub turn: u32,
-    pub lists: bool,
-    pub leads: &'a [u64],
-}
-
-// The entry of a listed id.
-pub fn listed_origin(q: &Asked, id: u32) -> Origin
-    ensures { entry_of result ≡ entry_in q.now.req q.now.turn q.now.leads.now id }
-{
-    if id == q.req {
-        return Origin {
+impl Emission<'_> {
+    // The entry of a listed id.
+    pub fn listed_origin(&self, id: u32) -> Origin
+        ensures { entry_of result ≡ entry_in self.now.request.req self.now.request.turn (lead_words self.now.leads.now) id }
+    {
+        if id == self.request.req {
+            return Origin {
+                id,
+                cause: Cause::Requested,
+                leader: id,
+            };
+        }
+        Origin {
             id,
-            cause: Cause::Requested,
-            leader: id,
-        };
+            cause: Cause::Needed,
+            leader: leader_of(self.leads, self.request.req, self.request.turn, id),
+        }
     }
-    Origin {
-        id,
-        cause: Cause::Needed,
-        leader: leader_of(q.leads, q.req, q.turn, id),
-    }
-}
 
-// At the top a line is there because its id is listed, within a container because of that.
-pub fn origin_at(q: &Asked, within: Cause, id: u32, cont: u32) -> Origin
-    ensures { entry_of result ≡ cause_at (cause_code within) (entry_in q.now.req q.now.turn q.now.leads.now id) id cont }
-{
-    if cont == 0 {
-        return listed_origin(q, id);
-    }
-    Origin {
-        id,
-        cause: within,
-        leader: cont,
+    // At the top a line is there because its id is listed, within a container because of that.
+    pub fn origin_at(&self, within: Cause, id: u32, cont: u32) -> Origin
+        ensures { entry_of result ≡ cause_at (cause_code within)
+            (entry_in self.now.request.req self.now.request.turn (lead_words self.now.leads.now) id) id cont }
+    {
+        if cont == 0 {
+            return self.listed_origin(id);
+        }
+        Origin {
+            id,
+            cause: within,
+            leader: cont,
+        }
     }
 }
 
@@ -100,9 +97,10 @@ fn put_entry(list: &mut [u8], k: usize, e: Origin)
     requires { k < length list.old / 12 }
     ensures { list.new ≡ entry_put list.old k e }
 {
-    put_word(list, k * 3, e.id);
-    put_word(list, k * 3 + 1, u32::from(e.cause));
-    put_word(list, k * 3 + 2, e.leader);
+    let at = k * ENTRY_WORDS;
+    put_word(list, at, e.id);
+    put_word(list, at + 1, u32::from(e.cause));
+    put_word(list, at + 2, e.leader);
 }
 
 // One more entry, or 17.
@@ -110,13 +108,13 @@ fn note(list: &mut [u8], p: Pen, e: Origin) -> Result<Pen, Refusal>
     ensures { (n : ℕ) (t w : List ℕ) → noted_out n result t w list.new
         ≡ obind (noted_out n (Ok p) t w list.old) (λ m. note_n (entries_in list.old) (entry_of e) m) }
 {
-    if list.len() / 12 <= p.count {
+    if list.len() / ENTRY_BYTES <= p.count {
         return Err(Refusal::TextFull);
     }
     put_entry(list, p.count, e);
     Ok(Pen {
-        at: p.at,
         count: p.count + 1,
+        ..p
     })
 }
 
@@ -130,14 +128,4 @@ pub fn note_if(list: &mut [u8], p: Pen, e: Origin, shown: bool) -> Result<Pen, R
         return note(list, p, e);
     }
     Ok(p)
-}
-
-// Whether the forward line or the typedef of a type prints anything: that of the compiler's own type does not.
-pub fn is_shown(b: &Table, t: BtfType) -> bool
-    ensures { result ≡ shown_of (type_of b.now.head b.now.section.now t) }
-{
-    if b.is_named(t) {
-        return !b.is_builtin(t.name_off);
-    }
-    true
 }

@@ -2,6 +2,7 @@
 #![tactic(auto)]
 
 pub mod dump_type;
+pub mod emission;
 pub mod emit_type;
 pub mod entries;
 pub mod lines;

@@ -2,13 +2,13 @@
 ghost use Rattle.std.specs.Prelude.{◌≡◌};
 ghost use Rattle.spec_session.specs.emission.Sheet.{emptied};
 
-use c_dumper_dependency_order::order_state::clear_listed;
+use c_dumper_dependency_order::order_state::set_listed;
 
 // Empties the first n places of the order list.
 pub fn clear_list(work: &mut [u8], n: u32)
     ensures { work.new ≡ emptied n work.old }
 {
     for k in 0..n {
-        clear_listed(work, k);
+        set_listed(work, k, 0);
     }
 }

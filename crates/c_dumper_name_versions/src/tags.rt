@@ -1,5 +1,5 @@
 // Declaration tags and type tags.
-ghost use Rattle.std.specs.Prelude.{◌≡◌, Ok};
+ghost use Rattle.std.specs.Prelude.{◌≡◌, Ok, unwrap_or};
 ghost use Rattle.spec_bytes.specs.text.Text.{whole};
 ghost use Rattle.spec_bytes.specs.text.Placed.{put_out, put_text};
 ghost use Rattle.base_keywords.specs.table.Fixed.{tag_name};
@@ -17,8 +17,8 @@ use btf_type_table::kind::kind_flag_of;
 use btf_type_table::table::Table;
 use spec_type_table::Kind;
 
-// The component index of a tag that is on the whole type: -1.
-pub const WHOLE_TYPE: u32 = u32::MAX;
+// The component index, in a section, of a tag that is on the whole type: -1.
+const WHOLE_TYPE: u32 = u32::MAX;
 
 fn put_tag_name(text: &mut [u8], at: usize, is_decl: bool) -> Result<usize, Refusal>
     ensures { put_out result text.new ≡ put_text text.old (Ok at) (whole (tag_name is_decl)) }
@@ -70,13 +70,13 @@ fn emit_decl_tag(
     if Kind::of(t.info) != Kind::DeclTag {
         return Ok(at);
     }
-    if b.comp_idx_of(t) != comp_idx {
+    if b.extra_word(t) != comp_idx {
         return Ok(at);
     }
     put_attribute(b, text, at, kind_flag_of(t.info), true, t.name_off)
 }
 
-// The tags of a type, those of the whole (WHOLE_TYPE) or of one member, in the order of their ids. The list
+// The tags of a type with a component index, in the order of their ids. The list
 // of a type's tags rises; what does not rise, or is no id of a type, was not left by opening, and ends it.
 fn emit_tag_list(
     b: &Table,
@@ -94,7 +94,7 @@ fn emit_tag_list(
     let mut p = at;
     let mut last: u32 = 0;
     let mut tag = get_field(work, id, cell::FIRST_TAG);
-    // A `while`: a list in the lent work goes by its links.
+    // A `while`: a list in the lent work goes by its links. (std takes `successors` to be endless: a walk to its end is not proved.)
     while last < tag {
         if b.head.types <= tag {
             return Ok(p);
@@ -106,22 +106,22 @@ fn emit_tag_list(
     Ok(p)
 }
 
-// The same; most types have no tag.
+// The tags of a type as a whole, or of one of its members; most types have no tag.
 pub fn emit_decl_tags(
     b: &Table,
     work: &[u8],
     text: &mut [u8],
     at: usize,
     id: u32,
-    comp_idx: u32,
+    component: Option<u32>,
 ) -> Result<usize, Refusal>
     ensures { put_out result text.new
         ≡ put_text text.old (Ok at) (whole
-        (decl_tags (btf_of b.now.head b.now.section.now work.now) comp_idx
+        (decl_tags (btf_of b.now.head b.now.section.now work.now) (unwrap_or component 4294967295)
         ((btf_of b.now.head b.now.section.now work.now).decl_tags id))) }
 {
     if get_field(work, id, cell::FIRST_TAG) == 0 {
         return Ok(at);
     }
-    emit_tag_list(b, work, text, at, id, comp_idx)
+    emit_tag_list(b, work, text, at, id, component.unwrap_or(WHOLE_TYPE))
 }

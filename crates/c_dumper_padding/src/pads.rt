@@ -14,12 +14,13 @@ use base_keywords::table::{Word, put_word};
 fn put_unit(text: &mut [u8], at: usize, unit: Unit) -> Result<usize, Refusal>
     ensures { put_out result text.new ≡ put_text text.old (Ok at) (whole (unit_word (unit_of unit))) }
 {
-    match unit {
-        Unit::Long => put_word(text, at, Word::Long),
-        Unit::Int => put_word(text, at, Word::Int),
-        Unit::Short => put_word(text, at, Word::Short),
-        Unit::Char => put_word(text, at, Word::Char),
-    }
+    let word = match unit {
+        Unit::Long => Word::Long,
+        Unit::Int => Word::Int,
+        Unit::Short => Word::Short,
+        Unit::Char => Word::Char,
+    };
+    put_word(text, at, word)
 }
 
 fn put_pad(text: &mut [u8], at: usize, pad: Pad, lvl: u32) -> Result<usize, Refusal>
@@ -33,7 +34,8 @@ fn put_pad(text: &mut [u8], at: usize, pad: Pad, lvl: u32) -> Result<usize, Refu
     put_byte(text, f, b';')
 }
 
-// The pads of a gap from one bit to another. (A while: each pad says where the next one starts.)
+// The pads of a gap from one bit to another. (A while: each pad says where the next one starts. The mode is asked at each pad: chosen
+// once, the loop would stand here twice, or take a closure for a test of one bit.)
 pub fn put_pads(
     text: &mut [u8],
     at: usize,

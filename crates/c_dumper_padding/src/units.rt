@@ -1,7 +1,7 @@
 // The next pad of a gap, in both modes: its unit and its width.
 ghost use Rattle.std.specs.Prelude.{◌≡◌};
 ghost use Rattle.spec_c_dumper.specs.rules.Layout.{chip_away_bits, pad_of, placed_pad};
-ghost use Rattle.c_dumper_padding.specs.units.Units.{pad_is, pad_by, suits_by, placed_char};
+ghost use Rattle.c_dumper_padding.specs.units.Units.{pad_is, pad_by, suits_by};
 
 #[derive(Clone, Copy, PartialEq, Eq)]
 pub enum Unit {
@@ -78,67 +78,34 @@ fn suits(start: u64, gap: u64, log: u32, width: u64) -> bool
     width <= gap
 }
 
-// The next pad of placing mode that is a char.
-fn char_pad(start: u64, gap: u64) -> Pad
-    ensures { pad_is result ≡ placed_char start gap }
-{
-    if suits(start, gap, 3, 8) {
-        return Pad {
-            unit: Unit::Char,
-            width: 8,
-        };
-    }
-    if suits(start, gap, 2, 4) {
-        return Pad {
-            unit: Unit::Char,
-            width: 4,
-        };
-    }
-    if suits(start, gap, 1, 2) {
-        return Pad {
-            unit: Unit::Char,
-            width: 2,
-        };
-    }
-    Pad {
-        unit: Unit::Char,
-        width: 1,
-    }
-}
-
-// The next pad of placing mode that is no long.
-fn narrow_pad(start: u64, gap: u64) -> Pad
-    ensures { pad_is result ≡ placed_pad 0 start gap }
-{
-    if suits(start, gap, 5, 32) {
-        return Pad {
-            unit: Unit::Int,
-            width: 32,
-        };
-    }
-    if suits(start, gap, 4, 16) {
-        return Pad {
-            unit: Unit::Short,
-            width: 16,
-        };
-    }
-    char_pad(start, gap)
-}
+// The pads of placing mode, the widest first, each with the logarithm of its width. The first is for pointers of 8 bytes.
+const PLACED: [(u32, Unit, u64); 6] = [
+    (6, Unit::Long, 64),
+    (5, Unit::Int, 32),
+    (4, Unit::Short, 16),
+    (3, Unit::Char, 8),
+    (2, Unit::Char, 4),
+    (1, Unit::Char, 2),
+];
 
 // The next pad of placing mode: the widest unit whose start is a multiple of its width and that still fits the gap.
 fn placed_pad(ptr_sz: u32, start: u64, gap: u64) -> Pad
     ensures { pad_is result ≡ placed_pad ptr_sz start gap }
 {
-    if ptr_sz != 8 {
-        return narrow_pad(start, gap);
+    let from = if ptr_sz == 8 { 0 } else { 1 };
+    let first = PLACED[from..]
+        .iter()
+        .find(|(log, _, width)| suits(start, gap, *log, *width));
+    match first {
+        Some((_, unit, width)) => Pad {
+            unit: *unit,
+            width: *width,
+        },
+        None => Pad {
+            unit: Unit::Char,
+            width: 1,
+        },
     }
-    if suits(start, gap, 6, 64) {
-        return Pad {
-            unit: Unit::Long,
-            width: 64,
-        };
-    }
-    narrow_pad(start, gap)
 }
 
 // The next pad of a gap from a bit on, in either mode.

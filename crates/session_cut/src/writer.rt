@@ -1,5 +1,4 @@
 // A section cut down to what is used.
-mod area;
 mod names;
 mod source;
 mod write;

@@ -2,7 +2,7 @@
 mod fill;
 mod slots;
 
-pub use crate::interned::slots::find;
+pub use crate::interned::slots::{Slot, find};
 
 // Slots of the table; SLOTS says of a place that it is none.
 pub const SLOTS: u32 = 262144;

@@ -5,15 +5,16 @@ ghost use Rattle.spec_bytes.specs.words.Words.{get_word};
 ghost use Rattle.btf_open_causes.specs.references.Followed.{followed_count, followed_id};
 ghost use Rattle.session_cut_marks.specs.marks.Marks.{pushed, pushed_to, weight, closed, ids_of};
 ghost use Rattle.session_cut_marks.specs.marks.Marking.{heap_of, SameSlices};
+ghost use Rattle.session_cut_marks.specs.kept.AtKept.{at_index};
 
 use crate::tags::{mark_tags, number};
 use base_bytes::element::peek;
 use base_bytes::limit;
 use base_bytes::word::get_word;
-use btf_open_causes::references::{count_at, entry, id_at};
-use btf_type_table::table::Table;
+use btf_open_causes::references::Index;
 
-// The marks, and the ids that have one and whose references are still to be followed: the first `height` of the stack.
+// The marks, and the ids that have one and whose references are still to be followed: the first `height` of the stack. (No Vec: fixed
+// memory, no heap. Each function that takes it ensures `same`: a struct that holds a `&mut` owes that it is still the same slice.)
 #[derive(Drop)]
 struct Marking<'a> {
     marks: &'a mut [u32],
@@ -22,7 +23,8 @@ struct Marking<'a> {
 }
 
 impl Marking<'_> {
-    // Marks y and puts it on the stack, if it has no mark; void has none.
+    // Marks y and puts it on the stack, if it has no mark; void has none. (By index: with peek or store on a field that is a reference the
+    // proof of what the field has afterwards did not close.)
     fn push(&mut self, y: u32)
         ensures turned { heap_of self.new ≡ pushed (heap_of self.old) y }
         ensures same { SameSlices self.old self.new }
@@ -47,17 +49,14 @@ impl Marking<'_> {
     }
 
     // What type x follows.
-    fn push_followed(&mut self, b: &Table, start: &[u32], x: u32)
+    fn push_followed(&mut self, index: &Index, x: u32)
         ensures turned { heap_of self.new
-            ≡ pushed_to (followed_id b.now.head b.now.section.now start.now x) (heap_of self.old)
-            (followed_count b.now.head b.now.section.now start.now x) }
+            ≡ pushed_to (at_index followed_id index.now x) (heap_of self.old) (at_index followed_count index.now x) }
         ensures same { SameSlices self.old self.new }
     {
-        let e = entry(b.head, start, x);
-        let kind = e % 32;
-        let at = e / 32;
-        for k in 0..count_at(b, kind, at) {
-            self.push(id_at(b, kind, at, k));
+        let e = index.entry(x);
+        for k in 0..index.count_at(e) {
+            self.push(index.id_at(e, k));
         }
     }
 
@@ -69,9 +68,8 @@ impl Marking<'_> {
     }
 
     // Until the stack is empty: the last id is taken from it, and what it follows is marked.
-    fn close(&mut self, b: &Table, start: &[u32])
-        ensures turned { heap_of self.new
-            ≡ closed b.now.head b.now.section.now start.now (weight (heap_of self.old)) (heap_of self.old) }
+    fn close(&mut self, index: &Index)
+        ensures turned { heap_of self.new ≡ at_index closed index.now (weight (heap_of self.old)) (heap_of self.old) }
         ensures same { SameSlices self.old self.new }
     {
         // A `while`: the stack falls and grows, so no range says the turns.
@@ -79,11 +77,11 @@ impl Marking<'_> {
             let top = self.height - 1;
             let x = self.stacked(top);
             self.height = top;
-            self.push_followed(b, start, x);
+            self.push_followed(index, x);
         }
     }
 
-    // The given ids, four bytes each, least significant first.
+    // The given ids, four bytes each, least significant first. (By index: std has no lemma of the pieces that chunks_exact gives.)
     fn push_given(&mut self, given: &[u8])
         ensures turned { heap_of self.new
             ≡ pushed_to (get_word given.now) (heap_of self.old) (length given.now / 4) }
@@ -96,8 +94,8 @@ impl Marking<'_> {
 }
 
 // For each id its new number, and 0 for what is not kept. The ids lent are zeros, 262145 of them; other words count as marks.
-pub fn number_kept(b: &Table, start: &[u32], given: &[u8], ids: &mut [u32])
-    ensures { ids.new ≡ ids_of b.now.head b.now.section.now start.now given.now ids.old }
+pub fn number_kept(index: &Index, given: &[u8], ids: &mut [u32])
+    ensures { ids.new ≡ at_index ids_of index.now given.now ids.old }
 {
     let mut stack = [0u32; limit::TYPES_LEN];
     let mut marking = Marking {
@@ -106,7 +104,7 @@ pub fn number_kept(b: &Table, start: &[u32], given: &[u8], ids: &mut [u32])
         height: 0,
     };
     marking.push_given(given);
-    marking.close(b, start);
-    mark_tags(b, start, ids);
+    marking.close(index);
+    mark_tags(index, ids);
     number(ids);
 }

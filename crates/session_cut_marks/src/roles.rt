@@ -1,42 +1,33 @@
-// The words of a record. The tables are texts of digits, one for each kind 0 to 19.
-ghost use Rattle.std.specs.Prelude.{◌≡◌};
-ghost use Rattle.session_cut_marks.specs.roles.Words.{digit_at, fixed_words, entry_words, column, role, role_of, words_in, word_of};
+// The words of a record, by its kind.
+ghost use Rattle.std.specs.Prelude.{◌≡◌, ◌+◌, ◌%◌};
+ghost use Rattle.session_cut_marks.specs.roles.Words.{fixed_words, entry_words, role, role_of, words_in, word_of};
 
-use base_bytes::element::peek;
+use btf_open_causes::references::Entry;
 use btf_type_table::kind::vlen_of;
 use btf_type_table::table::Table;
+use spec_type_table::Kind;
 
-fn digit(l: &[u8], i: usize) -> u8
-    ensures { result ≡ digit_at l.now i }
+// The words that every record of its kind has.
+fn fixed_words(e: Entry) -> u32
+    ensures { result ≡ fixed_words (e.word % 32) }
 {
-    peek(l, i, b'0').saturating_sub(b'0')
+    match e.kind() {
+        Kind::Int | Kind::Var | Kind::DeclTag => 4,
+        Kind::Array => 6,
+        Kind::Unknown => 0,
+        _ => 3,
+    }
 }
 
-fn fixed_words(kind: u32) -> u8
-    ensures { result ≡ fixed_words kind }
+// The words of one of its entries.
+fn entry_words(e: Entry) -> u32
+    ensures { result ≡ entry_words (e.word % 32) }
 {
-    digit(b"34363333333333433433", kind as usize)
-}
-
-fn entry_words(kind: u32) -> u8
-    ensures { result ≡ entry_words kind }
-{
-    digit(b"00003320000002030003", kind as usize)
-}
-
-fn column(per: u8, j: u32) -> u32
-    ensures { result ≡ column per j }
-{
-    if j < 3 {
-        return j;
+    match e.kind() {
+        Kind::Struct | Kind::Union | Kind::Datasec | Kind::Enum64 => 3,
+        Kind::Enum | Kind::FuncProto => 2,
+        _ => 0,
     }
-    if per == 0 {
-        return j;
-    }
-    if per == 2 {
-        return 3 + (j - 3) % 2;
-    }
-    3 + (j - 3) % 3
 }
 
 // What a word of a record is: the offset of a name, a stored id, or neither.
@@ -47,33 +38,95 @@ pub enum Role {
     Plain,
 }
 
-// What word j of a record of a kind is.
-pub fn word_role(kind: u32, j: u32) -> Role
-    ensures { result ≡ role_of (role kind j) }
+// The first word: name_off.
+fn name_role(e: Entry) -> Role
+    ensures { result ≡ role_of (role (e.word % 32) 0) }
 {
-    let at = (kind as usize) * 6 + (column(entry_words(kind), j) as usize);
-    let d = digit(
-        b"000000100000102000100220100120100120100100100000102000102000102000102000102000102120102000100200100000102000102000100100",
-        at,
-    );
-    match d {
-        1 => Role::Name,
-        2 => Role::Id,
+    match e.kind() {
+        Kind::Void | Kind::Unknown => Role::Plain,
+        _ => Role::Name,
+    }
+}
+
+// The third word: `type`, or `size` or unused.
+fn type_role(e: Entry) -> Role
+    ensures { result ≡ role_of (role (e.word % 32) 2) }
+{
+    match e.kind() {
+        Kind::Ptr
+        | Kind::Typedef
+        | Kind::Volatile
+        | Kind::Const
+        | Kind::Restrict
+        | Kind::Func
+        | Kind::FuncProto
+        | Kind::Var
+        | Kind::DeclTag
+        | Kind::TypeTag => Role::Id,
         _ => Role::Plain,
     }
 }
 
-// How many words the record with entry e has: place * 32 + kind.
-pub fn words_in(b: &Table, e: u32) -> u32
-    ensures { result ≡ words_in b.now.head b.now.section.now e }
+// Word k of what follows the first three: entries of two or three words repeat.
+#[inline]
+fn entry_role(e: Entry, k: u32) -> Role
+    ensures { result ≡ role_of (role (e.word % 32) (3 + k)) }
 {
-    let v = vlen_of(b.word(((e / 32) as usize) + 4));
-    (fixed_words(e % 32) as u32) + (entry_words(e % 32) as u32) * v
+    match e.kind() {
+        Kind::Struct | Kind::Union => match k % 3 {
+            0 => Role::Name,
+            1 => Role::Id,
+            _ => Role::Plain,
+        },
+        Kind::FuncProto => match k % 2 {
+            0 => Role::Name,
+            _ => Role::Id,
+        },
+        Kind::Enum => match k % 2 {
+            0 => Role::Name,
+            _ => Role::Plain,
+        },
+        Kind::Enum64 => match k % 3 {
+            0 => Role::Name,
+            _ => Role::Plain,
+        },
+        Kind::Array => match k % 3 {
+            2 => Role::Plain,
+            _ => Role::Id,
+        },
+        Kind::Datasec => match k % 3 {
+            0 => Role::Id,
+            _ => Role::Plain,
+        },
+        _ => Role::Plain,
+    }
+}
+
+// What word j of the record with entry e is. (Inline, as each word is asked: a cut of the kernel's table takes an eighth more instructions
+// without.)
+#[inline]
+pub fn word_role(e: Entry, j: u32) -> Role
+    ensures { result ≡ role_of (role (e.word % 32) j) }
+{
+    match j {
+        0 => name_role(e),
+        1 => Role::Plain,
+        2 => type_role(e),
+        _ => entry_role(e, j - 3),
+    }
+}
+
+// How many words it has.
+pub fn words_in(b: &Table, e: Entry) -> u32
+    ensures { result ≡ words_in b.now.head b.now.section.now e.word }
+{
+    let v = vlen_of(b.word((e.place() as usize) + 4));
+    fixed_words(e) + entry_words(e) * v
 }
 
 // Word j of it.
-pub fn word_of(b: &Table, e: u32, j: u32) -> u32
-    ensures { result ≡ word_of b.now.head b.now.section.now e j }
+pub fn word_of(b: &Table, e: Entry, j: u32) -> u32
+    ensures { result ≡ word_of b.now.head b.now.section.now e.word j }
 {
-    b.word(((e / 32) as usize) + (j as usize) * 4)
+    b.word((e.place() as usize) + (j as usize) * 4)
 }

@@ -2,23 +2,23 @@
 ghost use Rattle.std.specs.Prelude.{◌≡◌, ◌<◌};
 ghost use Rattle.btf_open_causes.specs.references.Followed.{type_count};
 ghost use Rattle.session_cut_marks.specs.tags.Tags.{some_number, tag_on, tagged_at, tagged_to, numbered, numbered_at, numbers_of};
+ghost use Rattle.session_cut_marks.specs.kept.AtKept.{at_index};
 
 use base_bytes::element::{peek, store};
 use base_bytes::limit;
-use btf_open_causes::references::{count, entry, kind_at};
-use btf_type_table::table::Table;
+use btf_open_causes::references::Index;
 use spec_type_table::Kind;
 
 // What the DECL_TAG x is on, where that is neither void nor a DECL_TAG.
-fn tag_on(b: &Table, start: &[u32], x: u32) -> Option<u32>
-    ensures { result ≡ some_number (tag_on b.now.head b.now.section.now start.now x) }
+fn tag_on(index: &Index, x: u32) -> Option<u32>
+    ensures { result ≡ some_number (at_index tag_on index.now x) }
 {
-    let e = entry(b.head, start, x);
-    if Kind::numbered(e % 32) != Kind::DeclTag {
+    let e = index.entry(x);
+    if e.kind() != Kind::DeclTag {
         return None;
     }
-    let t = b.word(((e / 32) as usize) + 8);
-    let is_tag = Kind::numbered(kind_at(b.head, start, t)) == Kind::DeclTag;
+    let t = index.table.word((e.place() as usize) + 8);
+    let is_tag = index.kind_at(t) == Kind::DeclTag;
     if is_tag {
         return None;
     }
@@ -29,10 +29,10 @@ fn tag_on(b: &Table, start: &[u32], x: u32) -> Option<u32>
 }
 
 // Marks x, if it is a tag on what is marked.
-fn mark_tag(b: &Table, start: &[u32], marks: &mut [u32], x: u32)
-    ensures { marks.new ≡ tagged_at b.now.head b.now.section.now start.now marks.old x }
+fn mark_tag(index: &Index, marks: &mut [u32], x: u32)
+    ensures { marks.new ≡ at_index tagged_at index.now marks.old x }
 {
-    let Some(t) = tag_on(b, start, x) else {
+    let Some(t) = tag_on(index, x) else {
         return;
     };
     if peek(marks, t as usize, 0) == 0 {
@@ -41,11 +41,11 @@ fn mark_tag(b: &Table, start: &[u32], marks: &mut [u32], x: u32)
     store(marks, x as usize, 1);
 }
 
-pub fn mark_tags(b: &Table, start: &[u32], marks: &mut [u32])
-    ensures { marks.new ≡ tagged_to b.now.head b.now.section.now start.now marks.old (type_count b.now.head) }
+pub fn mark_tags(index: &Index, marks: &mut [u32])
+    ensures { marks.new ≡ at_index tagged_to index.now marks.old (type_count index.now.table.head) }
 {
-    for x in 0..count(b.head) {
-        mark_tag(b, start, marks, x);
+    for x in 0..index.count() {
+        mark_tag(index, marks, x);
     }
 }
 
@@ -57,14 +57,12 @@ fn number_one(ids: &mut [u32], x: usize, c: u32) -> u32
     if peek(ids, x, 0) == 0 {
         return c;
     }
-    if ids.len() <= x {
-        return c;
-    }
-    ids[x] = c + 1;
+    store(ids, x, c + 1);
     c + 1
 }
 
-// "ids renumbered in old order": each mark becomes a number.
+// "ids renumbered in old order": each mark becomes a number. (By index: a slice may be longer than there are types, and after an adapter of
+// iter_mut, as take, a proof knows no element of it.)
 pub fn number(ids: &mut [u32])
     ensures { ids.new ≡ numbers_of ids.old }
 {

@@ -1,11 +1,10 @@
 // Reading one declaration's text back into its chain.
-ghost use Rattle.std.specs.Prelude.{◌≡◌, ◌<◌, length, replicate, IfSome};
+ghost use Rattle.std.specs.Prelude.{◌≡◌, ◌<◌, IfSome};
 ghost use Rattle.session_declaration_reader.specs.reader.Encoding.{read_into, count_told, ReadOut};
 
-use crate::bases::{base_at, put_base};
-use crate::grammar::declarator;
+use crate::bases::Chain;
 use crate::token_kind::TokenKind;
-use crate::tokens::token;
+use crate::tokens::Cursor;
 use base_bytes::limit;
 
 // Words of a chain: three for each of its entries.
@@ -15,27 +14,27 @@ pub const CHAIN_WORDS: usize = 1536;
 const MOST_OPEN: u32 = 2056;
 
 // The chain of the declaration that the text is, from the first of the lent words on: how many entries it has.
-fn read_chain(text: &[u8], chain: &mut [u64]) -> Option<u32>
-    ensures { ReadOut text.now chain.old result chain.new }
+fn read_chain(text: &[u8], words: &mut [u64]) -> Option<u32>
+    ensures { ReadOut text.now words.old result words.new }
 {
-    let b = base_at(text, 0, true)?;
-    let r = declarator(text, b.end, true, MOST_OPEN, chain, 0)?;
-    let t = token(text, r.at);
-    let TokenKind::End = t.kind else {
+    let start = Cursor { text, at: 0 };
+    let mut chain = Chain { words, n: 0 };
+    let base = start.base_at(true)?;
+    let behind = Cursor {
+        at: base.end,
+        ..start
+    };
+    let at = behind.declarator(true, MOST_OPEN, &mut chain)?;
+    let end = Cursor { at, ..start };
+    let TokenKind::End = end.token().kind else {
         return None;
     };
-    let n = put_base(chain, r.n, b, false);
-    let is_longer = limit::MOST_CALLS < n;
+    chain.put_base(base, false);
+    let is_longer = limit::MOST_CALLS < chain.n;
     if is_longer {
         return None;
     }
-    Some(n)
-}
-
-fn clear(chain: &mut [u64])
-    ensures { chain.new ≡ replicate (length chain.old) 0 }
-{
-    chain.fill(0)
+    Some(chain.n)
 }
 
 // Reads the declaration that the text is, stores its chain, and tells how many entries it has. None, and words of zero, where the text is
@@ -45,7 +44,7 @@ pub fn read_declaration(text: &[u8], chain: &mut [u64]) -> Option<u32>
 {
     let n = read_chain(text, chain);
     if n.is_none() {
-        clear(chain);
+        chain.fill(0);
     }
     n
 }

@@ -9,12 +9,12 @@ pub enum Qualifier {
     Restrict,
 }
 
-impl Qualifier {
-    // Its number in an entry of a chain.
-    pub fn code(self) -> u64
-        ensures { result ≡ qualifier_code self }
+// Its number in an entry of a chain.
+impl From<Qualifier> for u64 {
+    fn from(qualifier: Qualifier) -> u64
+        ensures { result ≡ qualifier_code qualifier }
     {
-        match self {
+        match qualifier {
             Qualifier::Const => 1,
             Qualifier::Volatile => 2,
             Qualifier::Restrict => 3,
@@ -22,7 +22,11 @@ impl Qualifier {
     }
 }
 
-// A mark is a byte that stands by itself; `...` is the mark of its byte, and what is no token the mark of byte 0.
+// The byte of what is no token.
+pub const NO_TOKEN: u8 = 0;
+
+// A mark is a byte that stands by itself; `...` is the mark of its byte. What is no token is a mark too, and no variant of its own: the
+// definition says of a byte 0 in the text what it says of such a run, and is_mark and void_before promise it for each byte, 0 with them.
 #[derive(Clone, Copy)]
 pub enum TokenKind {
     End,

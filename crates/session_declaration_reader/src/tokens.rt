@@ -1,14 +1,21 @@
 // The tokens of a text, looked at from a place on.
-ghost use Rattle.std.specs.Prelude.{◌≡◌, true, ◌+◌, ◌-◌, ◌<◌, length, get_or};
-ghost use Rattle.session_declaration_reader.specs.tokens.Tokens.{is_digit, is_letter, is_word_byte, in_run};
+ghost use Rattle.std.specs.Prelude.{◌≡◌, true, ◌<◌, length, get_or, drop};
+ghost use Rattle.session_declaration_reader.specs.tokens.Tokens.{is_letter, is_word_byte, in_run};
 ghost use Rattle.session_declaration_reader.specs.tokens.Tokens as defs;
 ghost use Rattle.session_declaration_reader.specs.tokens.Looking.{count_value, base_kind, word_kind, run_kind, Skipped, Ran};
 ghost use Rattle.session_declaration_reader.specs.tokens.Looking.{Looked};
 
-use crate::token_kind::{Qualifier, TokenKind};
-use base_bytes::limit;
+use crate::token_kind::{NO_TOKEN, Qualifier, TokenKind};
 use base_keywords::table::{Word, is_word};
 
+// A text, and where reading stands in it.
+#[derive(Clone, Copy)]
+pub struct Cursor<'a> {
+    pub text: &'a [u8],
+    pub at: usize,
+}
+
+// A token, and where it starts and ends.
 #[derive(Clone, Copy)]
 pub struct Tok {
     pub kind: TokenKind,
@@ -16,25 +23,18 @@ pub struct Tok {
     pub end: usize,
 }
 
-#[tactic(auto, unfolding(crate::specs::tokens::Tokens::is_digit))]
-fn is_digit(b: u8) -> bool
-    ensures { result ≡ is_digit b }
-{
-    matches!(b, b'0'..=b'9')
-}
-
 #[tactic(auto, unfolding(crate::specs::tokens::Tokens::is_letter))]
 fn is_letter(b: u8) -> bool
     ensures { result ≡ is_letter b }
 {
-    matches!(b, b'A'..=b'Z' | b'a'..=b'z' | b'_')
+    b.is_ascii_alphabetic() || b == b'_'
 }
 
-#[tactic(auto, unfolding(crate::specs::tokens::Tokens::is_word_byte))]
+#[tactic(auto, unfolding(crate::specs::tokens::Tokens::is_word_byte, crate::specs::tokens::Tokens::is_digit))]
 fn is_word_byte(b: u8) -> bool
     ensures { result ≡ is_word_byte b }
 {
-    is_letter(b) || is_digit(b)
+    is_letter(b) || b.is_ascii_digit()
 }
 
 #[tactic(auto, unfolding(crate::specs::tokens::Tokens::in_run))]
@@ -57,37 +57,29 @@ fn identifier(run: &[u8]) -> bool
 fn count_value(run: &[u8]) -> Option<u32>
     ensures { result ≡ count_value run.now }
 {
-    if run.is_empty() {
+    if let [] | [b'0', _, ..] = run {
         return None;
     }
-    let has_leading_zero = run[0] == b'0';
-    if has_leading_zero && run.len() != 1 {
-        return None;
-    }
-    let mut v: u64 = 0;
+    let mut v: u32 = 0;
     for b in run {
-        if !is_digit(*b) {
+        if !b.is_ascii_digit() {
             return None;
         }
-        v = v * 10 + (*b - b'0') as u64;
-        if limit::LARGEST_64 < v {
-            return None;
-        }
+        v = v.checked_mul(10)?.checked_add((*b - b'0') as u32)?;
     }
-    Some(v as u32)
+    Some(v)
 }
 
-// An identifier that is no qualifier.
+// An identifier that is no qualifier. (With word_kind as one function it is proved too, but the attribute that opens three definitions
+// stands on one line, and passes 140 columns.)
+#[tactic(auto, unfolding(crate::specs::tokens::Tokens::kind_of))]
 fn base_kind(run: &[u8]) -> TokenKind
     ensures { result ≡ base_kind run.now }
 {
-    if is_word(run, Word::Struct) {
-        return TokenKind::Tag;
-    }
-    if is_word(run, Word::Union) {
-        return TokenKind::Tag;
-    }
-    if is_word(run, Word::Enum) {
+    let is_tag = is_word(run, Word::Struct)
+        || is_word(run, Word::Union)
+        || is_word(run, Word::Enum);
+    if is_tag {
         return TokenKind::Tag;
     }
     if is_word(run, Word::Void) {
@@ -96,6 +88,7 @@ fn base_kind(run: &[u8]) -> TokenKind
     TokenKind::Word
 }
 
+#[tactic(auto, unfolding(crate::specs::tokens::Tokens::word_token, spec_c_dumper::specs::rules::Decl::qualifier))]
 fn word_kind(run: &[u8]) -> TokenKind
     ensures { result ≡ word_kind run.now }
 {
@@ -111,6 +104,7 @@ fn word_kind(run: &[u8]) -> TokenKind
     base_kind(run)
 }
 
+#[tactic(auto, unfolding(crate::specs::tokens::Looking::count_value, crate::specs::tokens::Tokens::run_token))]
 fn run_kind(run: &[u8]) -> TokenKind
     ensures { result ≡ run_kind run.now }
 {
@@ -123,58 +117,61 @@ fn run_kind(run: &[u8]) -> TokenKind
     if is_word(run, Word::Dots) {
         return TokenKind::Mark(b'.');
     }
-    TokenKind::Mark(0)
+    TokenKind::Mark(NO_TOKEN)
 }
 
-// The first place from `at` on where no space stands.
-fn skip(text: &[u8], at: usize) -> usize
-    ensures { Skipped text.now at result }
-{
-    for i in at..text.len() {
-        if text[i] != b' ' {
-            return i;
-        }
+impl<'a> Cursor<'a> {
+    // What stands from here on.
+    fn rest(self) -> &'a [u8]
+        ensures { result.now ≡ drop self.entry.at self.entry.text.now }
+    {
+        self.text.get(self.at..).unwrap_or(&[])
     }
-    text.len().max(at)
-}
 
-// Where the run that starts at `at` ends.
-fn run_end(text: &[u8], at: usize) -> usize
-    requires { (at < length text.now) × (in_run (get_or text.now at 0) ≡ true) }
-    ensures { Ran text.now at result }
-{
-    for e in at + 1..text.len() {
-        if !in_run(text[e]) {
-            return e;
-        }
+    // The first place from here on where no space stands.
+    fn skip(self) -> usize
+        ensures { Skipped self.entry.text.now self.entry.at result }
+    {
+        let rest = self.rest();
+        let spaces = rest.iter().position(|b| *b != b' ');
+        self.at + spaces.unwrap_or(rest.len())
     }
-    text.len()
-}
 
-// The next token from `at` on.
-pub fn token(text: &[u8], at: usize) -> Tok
-    ensures { Looked text.now at result }
-{
-    let start = skip(text, at);
-    if text.len() <= start {
-        return Tok {
-            kind: TokenKind::End,
-            start,
-            end: start,
+    // Where the run that starts here ends.
+    fn run_end(self) -> usize
+        requires { (self.at < length self.text.now) × (in_run (get_or self.text.now self.at 0) ≡ true) }
+        ensures { Ran self.entry.text.now self.entry.at result }
+    {
+        let rest = self.rest();
+        let run = rest.iter().position(|b| !in_run(*b));
+        self.at + run.unwrap_or(rest.len())
+    }
+
+    // The next token.
+    pub fn token(self) -> Tok
+        ensures { Looked self.entry.text.now self.entry.at result }
+    {
+        let start = self.skip();
+        let Some(b) = self.text.get(start) else {
+            return Tok {
+                kind: TokenKind::End,
+                start,
+                end: start,
+            };
         };
-    }
-    let b = text[start];
-    if !in_run(b) {
-        return Tok {
-            kind: TokenKind::Mark(b),
+        if !in_run(*b) {
+            return Tok {
+                kind: TokenKind::Mark(*b),
+                start,
+                end: start + 1,
+            };
+        }
+        let run = Cursor { at: start, ..self };
+        let end = run.run_end();
+        Tok {
+            kind: run_kind(&self.text[start..end]),
             start,
-            end: start + 1,
-        };
-    }
-    let end = run_end(text, start);
-    Tok {
-        kind: run_kind(&text[start..end]),
-        start,
-        end,
+            end,
+        }
     }
 }

@@ -17,12 +17,13 @@ use session_record::settle::is_current;
 use spec_session::session::Session;
 use spec_type_table::{BtfType, Kind};
 
+// (The attribute stays on one line: the formatter joins it.)
 #[tactic(auto, using(spec_type_table::proofs::KindTypes::kind_types), unfolding(crate::specs::step::Code::shape_is, crate::specs::step::Path::shape_of))]
 fn shape_of(b: &Table, t: BtfType) -> Shape
     ensures { shape_is b.now.head b.now.section.now result ≡ shape_of (type_of b.now.head b.now.section.now t) }
 {
     match Kind::of(t.info) {
-        Kind::Array => Shape::Array(b.array_type(t)),
+        Kind::Array => Shape::Array(b.extra_word(t)),
         Kind::Struct | Kind::Union => Shape::Composite(t),
         Kind::Typedef | Kind::Volatile | Kind::Const | Kind::Restrict | Kind::TypeTag =>
             Shape::Through(t.type_id),
@@ -30,6 +31,7 @@ fn shape_of(b: &Table, t: BtfType) -> Shape
     }
 }
 
+#[tactic(auto, unfolding(crate::specs::step::Code::shape_is, crate::specs::step::Path::is_composite))]
 fn is_composite(b: &Table, t: BtfType) -> bool
     ensures { result ≡ is_composite (shape_of (type_of b.now.head b.now.section.now t)) }
 {
@@ -83,6 +85,7 @@ fn walk(b: &Table, work: &[u8], path: &mut [u8], id: u32, bit: u32, n: u32) -> R
 }
 
 // The answer to a path of this length in room for so many entries.
+#[tactic(auto, unfolding(crate::specs::field::Code::answer_to, spec_session::specs::session::Answers::alone))]
 fn answer_to(room: usize, len: u32) -> Result<u32, Refusal>
     ensures { alone result ≡ answer_to room len }
 {
@@ -109,6 +112,7 @@ fn find_field(b: &Table, work: &[u8], path: &mut [u8], id: u32, bit: u32) -> Res
 
 // The path to the innermost plain member or bit field that covers a bit of a composite. The session is only read: no refusal
 // closes it.
+#[tactic(auto, unfolding(crate::specs::field::Calls::field_call, crate::specs::field::Calls::found_of, spec_session::specs::session::Answers::alone))]
 pub fn which_field(
     s: Session,
     section: &[u8],

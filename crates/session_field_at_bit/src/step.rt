@@ -24,7 +24,8 @@ pub enum Shape {
     Composite(BtfType),
 }
 
-// One step of the walk: no further; into an entry, to a type and a bit of it; to an entry that is a bit field.
+// One step of the walk: no further; into an entry, to a type and a bit of it; to an entry that is a bit field. (No Option of a step: the
+// definition of a step has all three, and so has each use.)
 #[derive(Clone, Copy)]
 pub enum Step {
     Stay,
@@ -37,10 +38,7 @@ fn member_step(m: BtfMember, k: u32, end: u32, bit: u32) -> Step
     ensures { step_is result ≡ member_step m k end bit }
 {
     let offset = m.bit_offset;
-    if bit < offset {
-        return Step::Stay;
-    }
-    if end <= bit {
+    if !(offset..end).contains(&bit) {
         return Step::Stay;
     }
     let is_bit_field = m.bit_size != 0;
@@ -112,7 +110,7 @@ pub fn next_step(b: &Table, work: &[u8], shape: Shape, bit: u32) -> Result<Step,
     }
 }
 
-// Writes entry n of a path of this length, if the lent path has room for the whole.
+// Writes entry n of a path of this length, if the lent path has room for the whole: no get_mut of place n asks this.
 pub fn put_entry(path: &mut [u8], n: u32, k: u32, len: u32)
     ensures { path.new ≡ entry_put path.old n k len }
 {

@@ -12,24 +12,18 @@ use base_bytes::refusal::Refusal;
 use base_bytes::word::clear;
 use spec_session::session::{Reached, Session, Tally, Turn};
 
-// How far a text slice may be written after its first bytes: 1,073,741,824 bytes at most. No min of the lengths says it: what is
-// written already stays, also past that.
-#[tactic(auto, unfolding(spec_session::specs::calls::Calls::limit_of))]
+// How far a text slice may be written after its first bytes: 1,073,741,824 bytes at most, but what is written already stays. (No min
+// with text_len after all: nothing is asked of from, and the two differ where from is past a long text.)
 pub fn limit(text_len: usize, from: usize) -> usize
     ensures { result ≡ limit_of text_len from }
 {
     if text_len <= limit::MOST_TEXT {
         return text_len;
     }
-    if from <= limit::MOST_TEXT {
-        limit::MOST_TEXT
-    } else {
-        from
-    }
+    from.max(limit::MOST_TEXT)
 }
 
 // A sum of 32 bits, or the largest such number.
-#[tactic(auto, unfolding(crate::specs::arrival::Arrival::clipped))]
 fn sum(a: u32, n: usize) -> u32
     ensures { result ≡ clipped (a + n) }
 {
@@ -37,7 +31,6 @@ fn sum(a: u32, n: usize) -> u32
 }
 
 // What the place where a request ended says, after a text of len bytes and so many visits: the new length, or the refusal.
-#[tactic(auto, unfolding(crate::specs::arrival::Arrival::arrived_in))]
 pub fn arrived(len: u32, visits: u32, end: Result<usize, Refusal>) -> Reached
     ensures { result ≡ arrived_in len visits end }
 {
@@ -56,27 +49,24 @@ pub fn arrived(len: u32, visits: u32, end: Result<usize, Refusal>) -> Reached
 }
 
 // How many ids there are: as many as the answer's value can count, at most.
-#[tactic(auto, unfolding(spec_session::specs::calls::Lists::count_in))]
 pub fn count_of(ids: &[u8]) -> u32
     ensures { result ≡ count_in ids.now }
 {
     u32::try_from(ids.len() / 4).unwrap_or(u32::MAX)
 }
 
-// Zeroes what follows the text, if an id was accepted.
-#[tactic(auto, unfolding(spec_session::specs::calls::Lists::tailed))]
-fn clear_after(text: &mut [u8], accepted: u32, len: u32)
-    ensures { text.new ≡ tailed accepted len text.old }
+// Zeroes what follows the first bytes, of a text or of a list, if an id was accepted.
+pub fn clear_after(bytes: &mut [u8], accepted: u32, from: usize)
+    ensures { bytes.new ≡ tailed accepted from bytes.old }
 {
     let is_none = accepted == 0;
     if is_none {
         return;
     }
-    clear_from(text, len);
+    clear_from(bytes, from);
 }
 
 // The end of a call with a list: 10 leaves what the accepted ids left, what comes after it closes the session.
-#[tactic(auto, unfolding(spec_session::specs::calls::Lists::list_end, spec_session::specs::session::Turns::call_of))]
 pub fn settle_list(s: Session, work: &mut [u8], text: &mut [u8], r: Tally) -> Turn
     ensures { call_of result.session (answer_is result.answer) work.new text.new
         ≡ list_end s r work.old text.old }
@@ -84,13 +74,13 @@ pub fn settle_list(s: Session, work: &mut [u8], text: &mut [u8], r: Tally) -> Tu
     let len = r.len;
     let answer = answer_of(r.stop, r.accepted);
     if stays_open(r.stop) {
-        clear_after(text, r.accepted, len);
+        clear_after(text, r.accepted, len as usize);
         return Turn {
             session: with_text(s, true, len, r.visits),
             answer: answer,
         };
     }
-    clear_from(text, len);
+    clear_from(text, len as usize);
     clear(work);
     Turn {
         session: with_text(s, false, len, r.visits),

@@ -6,11 +6,11 @@ ghost use Rattle.session_record.specs.record_words.Words.{packed};
 ghost use Rattle.session_record.specs.record_bytes.Record.{record_opened, record_refused, record_after, record_longer, record_listed};
 
 use crate::record_words::{encode, number_and_value, put_reached, shut};
+use crate::settle::is_kept;
 use base_bytes::refusal::Refusal;
 use spec_session::session::{Refused, Turn};
 
 // Opening writes the record whole, and a refused opening leaves it.
-#[tactic(auto, unfolding(crate::specs::record_bytes::Record::record_opened, crate::specs::record_words::Words::packed, spec_session::specs::session::Answers::number_of, spec_session::specs::session::Answers::value_of))]
 pub fn opened(record: &mut [u8], t: Turn) -> u64
     ensures { (result ≡ packed (answer_is t.answer))
         × («record».new ≡ record_opened (answer_is t.answer) t.session «record».old) }
@@ -25,7 +25,6 @@ pub fn opened(record: &mut [u8], t: Turn) -> u64
 }
 
 // A request changes the text length and the visits, and the open word where it closes the session; 10 and 11 change nothing.
-#[tactic(auto, unfolding(crate::specs::record_bytes::Record::record_after))]
 fn store(record: &mut [u8], t: Turn)
     ensures { «record».new ≡ record_after (answer_is t.answer) t.session.visits «record».old }
 {
@@ -36,12 +35,10 @@ fn store(record: &mut [u8], t: Turn)
     }
 }
 
-#[tactic(auto, unfolding(crate::specs::record_bytes::Record::record_refused))]
 fn store_refused(record: &mut [u8], refusal: Refusal, len: u32, visits: u32)
     ensures { «record».new ≡ record_refused (refusal_number refusal) len visits «record».old }
 {
-    let is_kept = u32::from(refusal) < u32::from(Refusal::TooDeep);
-    if is_kept {
+    if is_kept(refusal) {
         return;
     }
     shut(record);
@@ -57,7 +54,6 @@ pub fn answered(record: &mut [u8], t: Turn) -> u64
 }
 
 // A list changes them if an id was accepted.
-#[tactic(auto, unfolding(crate::specs::record_bytes::Record::record_longer))]
 fn store_longer(record: &mut [u8], accepted: u32, len: u32, visits: u32)
     ensures { «record».new ≡ record_longer accepted len visits «record».old }
 {
@@ -68,17 +64,15 @@ fn store_longer(record: &mut [u8], accepted: u32, len: u32, visits: u32)
     put_reached(record, len, visits)
 }
 
-#[tactic(auto, unfolding(crate::specs::record_bytes::Record::record_listed, crate::specs::record_bytes::Record::record_refused))]
 fn store_stopped(record: &mut [u8], refusal: Refusal, accepted: u32, len: u32, visits: u32)
     ensures { «record».new ≡ record_listed (refusal_number refusal) accepted len visits «record».old }
 {
-    if u32::from(refusal) > u32::from(Refusal::SessionClosed) {
-        return store_refused(record, refusal, len, visits);
+    if is_kept(refusal) {
+        return store_longer(record, accepted, len, visits);
     }
-    store_longer(record, accepted, len, visits)
+    store_refused(record, refusal, len, visits)
 }
 
-#[tactic(auto, unfolding(crate::specs::record_bytes::Record::record_listed, spec_session::specs::session::Answers::number_of, spec_session::specs::session::Answers::value_of))]
 fn store_list(record: &mut [u8], t: Turn)
     ensures { «record».new
         ≡ record_listed (number_of (answer_is t.answer)) (value_of (answer_is t.answer)) t.session.text_len

@@ -20,7 +20,6 @@ const USED_WORDS: usize = 9;
 // The answer 255 with value 0, for a slice that is shorter than C promises: no refusal has this number.
 pub const ANSWER_SHORT_SLICE: u64 = 255 * limit::TWO_TO_32;
 
-#[tactic(auto, unfolding(crate::specs::record_words::Words::packed, spec_session::specs::session::Answers::number_of, spec_session::specs::session::Answers::value_of))]
 pub fn number_and_value(a: Result<u32, Refused>) -> u64
     ensures { result ≡ packed (answer_is a) }
 {
@@ -37,8 +36,7 @@ pub fn number_or_value(a: Result<u32, Refusal>) -> u64
     number_and_value(a.map_err(|refusal| Refused { refusal, value: 0 }))
 }
 
-// Word i of the record.
-#[tactic(auto, unfolding(crate::specs::record_words::Words::get_long))]
+// Word i of the record. (By words of 32 bits: they ask nothing of the record's length, as a slice of eight bytes would.)
 fn get_long(record: &[u8], i: usize) -> u64
     requires { i < 16 }
     ensures { result ≡ get_long «record».now i }
@@ -48,7 +46,6 @@ fn get_long(record: &[u8], i: usize) -> u64
     (high as u64) * limit::TWO_TO_32 + (low as u64)
 }
 
-#[tactic(auto, unfolding(crate::specs::record_words::Words::put_long))]
 fn put_long(record: &mut [u8], i: usize, v: u64)
     requires { i < 16 }
     ensures { «record».new ≡ put_long «record».old i v }
@@ -65,7 +62,6 @@ pub fn shut(record: &mut [u8])
 }
 
 // The record's value; of a word that holds 32 bits the upper half does not matter.
-#[tactic(auto, unfolding(crate::specs::record_words::Words::decoded))]
 pub fn decode(record: &[u8]) -> Session
     ensures { result ≡ decoded «record».now }
 {
@@ -83,7 +79,6 @@ pub fn decode(record: &[u8]) -> Session
 }
 
 // Writes the words that opening decides; the rest of the sixteen is zero.
-#[tactic(auto, unfolding(crate::specs::record_words::Words::encoded, crate::specs::record_words::Words::encoded_last, crate::specs::record_words::Words::put_longs))]
 pub fn encode(record: &mut [u8], s: Session)
     ensures { «record».new ≡ encoded s «record».old }
 {
@@ -95,7 +90,6 @@ pub fn encode(record: &mut [u8], s: Session)
     encode_rest(record, s);
 }
 
-#[tactic(auto, unfolding(crate::specs::record_words::Words::encoded_last, crate::specs::record_words::Words::put_longs, crate::specs::record_words::Words::unused_zero))]
 fn encode_rest(record: &mut [u8], s: Session)
     ensures { «record».new ≡ encoded_last s «record».old }
 {
@@ -106,6 +100,8 @@ fn encode_rest(record: &mut [u8], s: Session)
     clear_unused(record);
 }
 
+// (Its loop is proved with the definition folded.)
+#[tactic(auto)]
 fn clear_unused(record: &mut [u8])
     ensures { «record».new ≡ unused_zero 7 «record».old }
 {
@@ -115,7 +111,6 @@ fn clear_unused(record: &mut [u8])
 }
 
 // What a request writes: the length of the text, and the visits.
-#[tactic(auto, unfolding(crate::specs::record_words::Words::put_reached))]
 pub fn put_reached(record: &mut [u8], len: u32, visits: u32)
     ensures { «record».new ≡ put_reached «record».old len visits }
 {

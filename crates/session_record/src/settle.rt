@@ -1,10 +1,12 @@
 // What every call of a session shares: cause 11, and how it ends.
-ghost use Rattle.std.specs.Prelude.{◌≡◌, length};
+ghost use Rattle.std.specs.Prelude.{◌≡◌, ltb, length};
+ghost use Rattle.spec_bytes.specs.Refusals.{refusal_number};
 ghost use Rattle.spec_session.specs.session.Answers.{answer_is, answer_of, stop_number, stays_open};
 ghost use Rattle.spec_session.specs.session.Turns.{call_of, refused_turn, is_current, reach_of, with_text, then_zeros, visits_in, settled};
 
 use base_bytes::refusal::Refusal;
 use base_bytes::word::{clear, get_word};
+use btf_type_table::cell;
 use spec_session::session::{Reached, Refused, Session, Turn};
 
 // The answer of requests that were stopped by a refusal, or by none.
@@ -28,13 +30,44 @@ pub fn refused(s: Session, refusal: Refusal, value: u32) -> Turn
     }
 }
 
-// Whether the session stays open: after no refusal, and after 10.
+// Whether a refusal leaves the session and its record as they were: 10 and 11 do, and those of opening, which come to no request.
+pub fn is_kept(refusal: Refusal) -> bool
+    ensures { result ≡ ltb (refusal_number refusal) 12 }
+{
+    match refusal {
+        Refusal::PointerSize
+        | Refusal::SectionTooLong
+        | Refusal::BadHeader
+        | Refusal::BadStrings
+        | Refusal::BadRecord
+        | Refusal::BadReference
+        | Refusal::PrototypeHeld
+        | Refusal::Loop
+        | Refusal::WorkShort
+        | Refusal::NoSuchId
+        | Refusal::SessionClosed => true,
+        Refusal::TooDeep
+        | Refusal::Cycle
+        | Refusal::NamelessTypedef
+        | Refusal::AlignmentZero
+        | Refusal::Overflow
+        | Refusal::TextFull
+        | Refusal::Misplaced
+        | Refusal::NoDeclaration
+        | Refusal::NoField
+        | Refusal::CeilingPassed
+        | Refusal::OutputShort => false,
+    }
+}
+
+// Whether the session stays open: after no refusal, and after 10. 11 is tested before.
 pub fn stays_open(stop: Option<Refusal>) -> bool
     ensures { result ≡ stays_open stop }
 {
     match stop {
         None => true,
-        Some(refusal) => u32::from(refusal) <= u32::from(Refusal::NoSuchId),
+        Some(Refusal::SessionClosed) => false,
+        Some(refusal) => is_kept(refusal),
     }
 }
 
@@ -61,24 +94,21 @@ pub fn with_text(s: Session, open: bool, len: u32, visits: u32) -> Session
     }
 }
 
-// Zeroes what follows the first n bytes.
+// Zeroes what follows the first bytes, of a text or of a list.
 #[tactic(auto, unfolding(spec_session::specs::session::Turns::then_zeros))]
-pub fn clear_from(text: &mut [u8], n: u32)
-    ensures { text.new ≡ then_zeros (length text.old) n text.old }
+pub fn clear_from(bytes: &mut [u8], from: usize)
+    ensures { bytes.new ≡ then_zeros (length bytes.old) from bytes.old }
 {
-    let from = n as usize;
-    if text.len() <= from {
-        return;
-    }
-    clear(&mut text[from..]);
+    let len = bytes.len();
+    clear(&mut bytes[from.min(len)..]);
 }
 
-// The visits that the work counts, in word 2 of void.
+// The visits that the work counts, in a word of void.
 #[tactic(auto, unfolding(spec_session::specs::session::Turns::visits_in))]
 pub fn visits_in(work: &[u8]) -> u32
     ensures { result ≡ visits_in work.now }
 {
-    get_word(work, 2)
+    get_word(work, cell::VISITS as usize)
 }
 
 // The end of a call: what follows the text is zero; after a refusal so is the work, and the session is closed. The record gets the
@@ -87,7 +117,7 @@ pub fn settle(s: Session, work: &mut [u8], text: &mut [u8], r: Reached) -> Turn
     ensures { call_of result.session (answer_is result.answer) work.new text.new
         ≡ settled s (length work.old) (length text.old) (reach_of r work.old text.old) }
 {
-    clear_from(text, r.len);
+    clear_from(text, r.len as usize);
     match r.stop {
         None => Turn {
             session: with_text(s, true, r.len, visits_in(work)),

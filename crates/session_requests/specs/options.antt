@@ -1,3 +1,4 @@
+pub mod Counted
 pub mod Lists
 pub mod Options
 pub mod Requests

@@ -8,9 +8,9 @@ ghost use Rattle.spec_session.specs.calls.Lists.{ids_in, list_call};
 ghost use Rattle.session_requests.specs.declared.options.Options.TheVariants.{Plain};
 ghost use Rattle.session_requests.specs.options.Lists.{call_with};
 
+use crate::call::Call;
 use crate::open_call::open_core;
 use crate::options::{Options, Wanted};
-use crate::requests::request;
 use spec_session::session::{Refused, Session};
 
 pub fn open(
@@ -40,16 +40,12 @@ fn requested(
     ensures { call_of s.new (answer_is result) work.new text.new
         ≡ (call_with Plain s.old section.now work.old text.old wanted.entry []).call }
 {
-    let turn = request(
-        *s,
+    let call = Call {
+        session: *s,
         section,
-        work,
-        text,
-        &mut [0u8; 0],
-        wanted,
-        Options::Plain,
-    )
-    .turn;
+        options: Options::Plain,
+    };
+    let turn = call.request(work, text, &mut [0u8; 0], wanted).of;
     *s = turn.session;
     turn.answer
 }

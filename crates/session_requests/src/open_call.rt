@@ -7,6 +7,9 @@ ghost use Rattle.spec_session.specs.calls.Calls.{open_call};
 use session_record::settle::refused;
 use spec_session::session::{Session, Turn};
 
+// Four modes, a bit each: other bits are ignored.
+const SETS_OF_MODES: u32 = 16;
+
 pub fn open_core(
     s: Session,
     section: &[u8],
@@ -31,7 +34,7 @@ pub fn open_core(
                 enumerators: counts.enumerators,
                 text_len: 0,
                 pointer_size: pointer_size,
-                modes: modes % 16,
+                modes: modes % SETS_OF_MODES,
                 visits: 0,
             },
             answer: Ok(counts.types),

@@ -1,9 +1,7 @@
 // The options of a request, and what a call with them comes to.
 ghost use Rattle.std.specs.Prelude.{◌≡◌};
-ghost use Rattle.session_requests.specs.options.Options.{is_listed, ceiling_of, idle_made};
+ghost use Rattle.session_requests.specs.options.Options.{is_listed, ceiling_of};
 
-use base_bytes::refusal::Refusal;
-use c_dumper_dependency_order::ways::count_idle;
 use spec_session::session::{Reached, Tally, Turn};
 
 // What a call asks for: one id, all ids, or those of a list, four bytes each.
@@ -15,7 +13,7 @@ pub enum Wanted<'a> {
 }
 
 // What a call is told beside its ids: nothing; a ceiling on the calls of ordering, which its requests share; or that the lent list
-// gets an entry for each line.
+// gets an entry for each line. (The list stands beside it: it is zeroed without Listed too, and options are copied.)
 #[derive(Clone, Copy)]
 pub enum Options {
     Plain,
@@ -41,38 +39,22 @@ impl Options {
             Options::Plain | Options::Listed => None,
         }
     }
-
-    // The calls of ordering made after a request that has nothing to do: it makes one, which only a ceiling counts.
-    pub fn count_idle(self, made: u64) -> Result<u64, Refusal>
-        ensures { result ≡ idle_made self made }
-    {
-        match self {
-            Options::Within(calls) => count_idle(made, calls),
-            Options::Plain | Options::Listed => Ok(made),
-        }
-    }
 }
 
-// Where the requests of a call have come to, how many entries they left, and the calls of ordering made under a ceiling.
+// Bytes of an entry of the list: three words.
+pub const ENTRY_BYTES: usize = 12;
+
+// How many entries the list has, and the calls of ordering made under a ceiling, beside what is told of the requests.
 #[derive(Clone, Copy)]
-pub struct Progress {
-    pub reached: Reached,
+pub struct Counted<T> {
+    pub of: T,
     pub count: usize,
     pub made: u64,
 }
 
-// The same of the ids of a list.
-#[derive(Clone, Copy)]
-pub struct Tallied {
-    pub tally: Tally,
-    pub count: usize,
-    pub made: u64,
-}
+// Where the requests of a call have come to, and the ids of a list; and what a call comes to.
+pub type Progress = Counted<Reached>;
 
-// What a call comes to, how many entries the list has, and the calls made.
-#[derive(Clone, Copy)]
-pub struct Ended {
-    pub turn: Turn,
-    pub count: usize,
-    pub made: u64,
-}
+pub type Tallied = Counted<Tally>;
+
+pub type Ended = Counted<Turn>;

@@ -1,158 +1,123 @@
 // One request of a call, after those before it: plain, under a ceiling, or with an entry for each line.
-ghost use Rattle.std.specs.Prelude.{◌+◌, ◌≤◌, ◌≡◌, [], length, None};
+ghost use Rattle.std.specs.Prelude.{◌+◌, ◌*◌, ◌≡◌, take, None};
 ghost use Rattle.spec_c_dumper.specs.origins.Causes.{up_to, entries_in};
 ghost use Rattle.spec_session.specs.session.Turns.{visits_in};
+ghost use Rattle.c_dumper_dependency_order.specs.leaders.Leads.{lead_words};
 ghost use Rattle.c_dumper_emit.specs.entries.Noted.{entries_of};
-ghost use Rattle.session_requests.specs.options.Requests.{stage_of, Under, Ready, requested_with, idle_after};
+ghost use Rattle.session_requests.specs.options.Requests.{stage_of, Fits, Ready, requested_with, idle_after};
 
-use crate::options::{Options, Progress};
-use btf_type_table::table::Table;
+use crate::call::Requests;
+use crate::options::{Counted, ENTRY_BYTES, Options, Progress};
+use c_dumper_dependency_order::leaders::Lead;
+use c_dumper_dependency_order::order_type::Orderer;
+use c_dumper_dependency_order::ways::count;
 use c_dumper_emit::dump_type::{Request, dump_type, is_idle};
 use c_dumper_emit::entries::Pen;
 use session_record::arrival::{arrived, limit};
 use session_record::settle::visits_in;
 use spec_session::session::Reached;
 
-// One request, after a text of len bytes, so many visits and so many calls of ordering: it is lent of the text what follows that, and of
-// the list what follows the entries so far. `turn` tells it from the other requests of the call.
-pub fn dump_one(
-    b: &Table,
-    work: &mut [u8],
-    text: &mut [u8],
-    list: &mut [u8],
-    leads: &mut [u64],
-    len: u32,
-    visits: u32,
-    made: u64,
-    id: u32,
-    turn: u32,
-    o: Options,
-) -> Progress
-    requires { (len ≤ length text.old) × (b.now.head.types ≤ 262145) × Under o made × Ready o turn leads.old }
-    ensures { (stage_of result work.new text.new list.new
-        ≡ requested_with o (up_to (entries_in list.old)) b.now.head b.now.section.now id [] len visits
-        work.old text.old made) × (result.count ≤ entries_in list.old)
-        × (result.reached.len ≤ length text.new) × Under o result.made
-        × (result.reached.stop ≡ None → (result.reached.visits ≡ visits_in work.new) × Ready o (turn + 1) leads.new) }
-{
-    let from = len as usize;
-    let to = limit(text.len(), from);
-    let start = Pen { at: 0, count: 0 };
-    let q = Request {
-        req: id,
-        turn: turn,
-        lists: o.is_listed(),
-    };
-    let d = dump_type(
-        b,
-        work,
-        &mut text[from..to],
-        list,
-        leads,
-        start,
-        q,
-        made,
-        o.ceiling(),
-    );
-    match d.pen {
-        Ok(pen) => Progress {
-            reached: arrived(len, visits_in(work), Ok(pen.at)),
-            count: pen.count,
-            made: d.made,
-        },
-        Err(refusal) => Progress {
-            reached: arrived(len, visits, Err(refusal)),
-            count: 0,
-            made: d.made,
-        },
+impl Requests<'_> {
+    // One request. It is lent of the text what follows that of the requests before it, and of the list what follows their entries.
+    // `turn` tells it from the other requests of the call.
+    pub fn dump_one(
+        &self,
+        work: &mut [u8],
+        text: &mut [u8],
+        list: &mut [u8],
+        leads: &mut [Lead],
+        p: Progress,
+        id: u32,
+        turn: u32,
+    ) -> Progress
+        requires { Fits self.now.options p text.old list.old × Ready self.now.options turn (lead_words leads.old) }
+        ensures { (stage_of result work.new text.new list.new
+            ≡ requested_with self.now.options (up_to (entries_in list.old)) self.now.table.head self.now.table.section.now id
+            (entries_of p.count list.old) p.of.len p.of.visits work.old text.old p.made)
+            × Fits self.now.options result text.new list.new
+            × (take (p.count * 12) list.new ≡ take (p.count * 12) list.old)
+            × (result.of.stop ≡ None → (result.of.visits ≡ visits_in work.new) × Ready self.now.options (turn + 1) (lead_words leads.new)) }
+    {
+        let len = p.of.len;
+        let from = len as usize;
+        let to = limit(text.len(), from);
+        let entries = p.count * ENTRY_BYTES;
+        let start = Pen { at: 0, count: 0 };
+        let q = Request {
+            req: id,
+            turn,
+            lists: self.options.is_listed(),
+        };
+        let o = Orderer {
+            table: self.table,
+            ceiling: self.options.ceiling(),
+        };
+        let d = dump_type(
+            &o,
+            work,
+            &mut text[from..to],
+            &mut list[entries..],
+            leads,
+            start,
+            q,
+            p.made,
+        );
+        match d.pen {
+            Ok(pen) => Counted {
+                of: arrived(len, visits_in(work), Ok(pen.at)),
+                count: p.count + pen.count,
+                made: d.made,
+            },
+            Err(refusal) => Counted {
+                of: arrived(len, p.of.visits, Err(refusal)),
+                count: p.count,
+                made: d.made,
+            },
+        }
+    }
+
+    // The next of all ids, of which most have nothing to write. Its turn is the id itself.
+    pub fn dump_next(
+        &self,
+        work: &mut [u8],
+        text: &mut [u8],
+        list: &mut [u8],
+        leads: &mut [Lead],
+        p: Progress,
+        id: u32,
+    ) -> Progress
+        requires { Fits self.now.options p text.old list.old × Ready self.now.options id (lead_words leads.old)
+            × (p.of.visits ≡ visits_in work.old) }
+        ensures { (stage_of result work.new text.new list.new
+            ≡ requested_with self.now.options (up_to (entries_in list.old)) self.now.table.head self.now.table.section.now id
+            (entries_of p.count list.old) p.of.len (visits_in work.old) work.old text.old p.made)
+            × Fits self.now.options result text.new list.new
+            × (result.of.stop ≡ None → (result.of.visits ≡ visits_in work.new) × Ready self.now.options (id + 1) (lead_words leads.new)) }
+    {
+        if is_idle(&self.table, work, id) {
+            return pass_idle(p, self.options);
+        }
+        self.dump_one(work, text, list, leads, p, id, id)
     }
 }
 
-// The same behind the entries before it, of which there are p.count.
-fn dump_after(
-    b: &Table,
-    work: &mut [u8],
-    text: &mut [u8],
-    list: &mut [u8],
-    leads: &mut [u64],
-    p: Progress,
-    id: u32,
-    o: Options,
-) -> Progress
-    requires { (p.reached.len ≤ length text.old) × (b.now.head.types ≤ 262145) × (p.count ≤ entries_in list.old) × Under o p.made
-        × Ready o id leads.old }
-    ensures { (stage_of result work.new text.new list.new
-        ≡ requested_with o (up_to (entries_in list.old)) b.now.head b.now.section.now id (entries_of p.count list.old)
-        p.reached.len p.reached.visits work.old text.old p.made)
-        × (result.count ≤ entries_in list.old) × (result.reached.len ≤ length text.new) × Under o result.made
-        × (result.reached.stop ≡ None → (result.reached.visits ≡ visits_in work.new) × Ready o (id + 1) leads.new) }
-{
-    let count = p.count;
-    let from = count * 12;
-    let r = dump_one(
-        b,
-        work,
-        text,
-        &mut list[from..],
-        leads,
-        p.reached.len,
-        p.reached.visits,
-        p.made,
-        id,
-        id,
-        o,
-    );
-    Progress {
-        count: count + r.count,
-        ..r
-    }
-}
-
-// A request that has nothing to write.
+// A request that has nothing to write: it makes one call of ordering, which only a ceiling counts.
 #[tactic(auto, unfolding(crate::specs::options::Requests::idle_after))]
 fn pass_idle(p: Progress, o: Options) -> Progress
     ensures { result ≡ idle_after p o }
 {
-    match o.count_idle(p.made) {
-        Ok(made) => Progress {
-            reached: Reached {
-                stop: None,
-                ..p.reached
-            },
+    match count(o.ceiling(), p.made) {
+        Ok(made) => Counted {
+            of: Reached { stop: None, ..p.of },
             made,
             ..p
         },
-        Err(refusal) => Progress {
-            reached: Reached {
+        Err(refusal) => Counted {
+            of: Reached {
                 stop: Some(refusal),
-                ..p.reached
+                ..p.of
             },
             ..p
         },
     }
-}
-
-// The next of all ids, of which most have nothing to write. Its turn is the id itself.
-pub fn dump_next(
-    b: &Table,
-    work: &mut [u8],
-    text: &mut [u8],
-    list: &mut [u8],
-    leads: &mut [u64],
-    p: Progress,
-    id: u32,
-    o: Options,
-) -> Progress
-    requires { (p.reached.len ≤ length text.old) × (b.now.head.types ≤ 262145) × (p.count ≤ entries_in list.old) × Under o p.made
-        × Ready o id leads.old × (p.reached.visits ≡ visits_in work.old) }
-    ensures { (stage_of result work.new text.new list.new
-        ≡ requested_with o (up_to (entries_in list.old)) b.now.head b.now.section.now id (entries_of p.count list.old)
-        p.reached.len (visits_in work.old) work.old text.old p.made)
-        × (result.count ≤ entries_in list.old) × (result.reached.len ≤ length text.new) × Under o result.made
-        × (result.reached.stop ≡ None → (result.reached.visits ≡ visits_in work.new) × Ready o (id + 1) leads.new) }
-{
-    if is_idle(b, work, id) {
-        return pass_idle(p, o);
-    }
-    dump_after(b, work, text, list, leads, p, id, o)
 }

@@ -18,7 +18,7 @@ FirstHolds [] k = ⊥
 FirstHolds (t ∷ l) zero = t ≡ true
 FirstHolds (t ∷ l) (suc k) = (t ≡ false) × FirstHolds l k
 
-next_zero : (n : ℕ) → next n ≡ 0 → n ≡ 0
+pub next_zero : (n : ℕ) → next n ≡ 0 → n ≡ 0
 next_zero zero e = refl
 next_zero (suc n) e = absurd (omega arith)
 

@@ -61,9 +61,9 @@ first_of [] = 0
 first_of (true ∷ l) = 1
 first_of (false ∷ l) = next (first_of l)
 
--- causes 1 to 4
-abbrev pub early : ℕ → List ℕ → List Bool
-early pointer s = cause1 pointer ∷ cause2 s ∷ cause3 s ∷ cause4 s ∷ []
+-- causes 2 to 6: what the section alone decides before its types are followed
+abbrev pub two_to_six : ℕ → List ℕ → List Bool
+two_to_six pointer s = cause2 s ∷ cause3 s ∷ cause4 s ∷ cause5 s ∷ cause6 pointer s ∷ []
 
 -- all nine, in their order; the last argument is the length of the work in bytes
 abbrev pub causes : ℕ → List ℕ → ℕ → List Bool
@@ -73,14 +73,6 @@ causes pointer s work =
 -- the number of the opening: 0 where no cause holds
 unfoldable pub opening_number : ℕ → List ℕ → ℕ → ℕ
 opening_number pointer s work = first_of (causes pointer s work)
-
--- causes 6, 7 and 8 over any index, and their number
-abbrev pub late : TypeTable → List ℕ → List ℕ → List Bool
-late b s start = has_bad_reference b s start ∷ any_leads b s start ∷ has_loop (graph_of b s start) ∷ []
-
-abbrev pub from_six : ℕ → ℕ
-from_six zero = zero
-from_six (suc n) = 6 + n
 
 -- the number of the cause that was found, and 0 where none was
 abbrev pub cause_number : Result (Unit {0}) Refusal → ℕ

@@ -5,7 +5,7 @@ use Rattle.spec_bytes.specs.Refusals.{refusal_number}
 use Rattle.btf_open_causes.specs.declared.records.Counts.{Counts}
 use Rattle.btf_open_causes.specs.header.Header.{btf_of}
 use Rattle.spec_opening.specs.Table.{types_of, enumerators_of, index_of}
-use Rattle.spec_opening.specs.Causes.{opening_number}
+use Rattle.spec_opening.specs.Causes.{next, first_of, two_to_six, opening_number}
 use Rattle.btf_open_names.specs.filled_work.Left.{filled}
 use Rattle.btf_open_names.specs.filled_work.Takers.{takers_in}
 
@@ -48,4 +48,12 @@ examined pointer s work =
     elim (eqb (opening_number pointer s work) 0) [
       | true ↦ sound_with (types_of s) (enumerators_of s) (index_of s)
       | false ↦ refused_by (opening_number pointer s work)
+    ]
+
+-- the same by causes 2 to 6 alone
+unfoldable pub indexed : ℕ → List ℕ → Examined
+indexed pointer s =
+    elim (eqb (first_of (two_to_six pointer s)) 0) [
+      | true ↦ sound_with (types_of s) (enumerators_of s) (index_of s)
+      | false ↦ refused_by (next (first_of (two_to_six pointer s)))
     ]

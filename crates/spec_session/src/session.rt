@@ -3,8 +3,8 @@ use spec_bytes::refusal::Refusal;
 
 // The lengths are those at opening; text_len is the length of the text so far. Bit 0 of modes is union_as_struct,
 // bit 1 strong_arrays, bit 2 the placing mode, bit 3 names that cannot collide. visits: the types and members looked
-// at to find alignments, by the requests accepted so far.
-#[derive(Clone, Copy)]
+// at to find alignments, by the requests accepted so far. By default it is a session that was never opened.
+#[derive(Clone, Copy, Default)]
 pub struct Session {
     pub open: bool,
     pub section_len: u64,
@@ -32,7 +32,7 @@ pub struct Turn {
 }
 
 // Where the requests of a call have come to: the length of the accepted text, and the refusal that stopped them, if one did;
-// with a refusal also the visits counted before it.
+// with a refusal also the visits counted before it. (No Result: length and visits count after a refusal too; so in Tally.)
 #[derive(Clone, Copy)]
 pub struct Reached {
     pub len: u32,

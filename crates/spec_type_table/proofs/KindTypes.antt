@@ -11,7 +11,7 @@ use Rattle.spec_type_table.specs.declared.kind.Kind.TheVariants.{Void, Int, Ptr,
 use Rattle.spec_type_table.specs.Kinds.{kind_named}
 use Rattle.spec_type_table.specs.Records.{kind_of, flag_of}
 use Rattle.spec_type_table.specs.Table.{record_name, extra_word, nelems_word, members_of, params_of, values_of, values64_of, type_of}
-use Rattle.spec_type_table.proofs.KindLaws.{type_0, type_1, type_2, type_3, type_4, type_5, type_6, type_7, type_8, type_9, type_10, type_11, type_12, type_13, type_14, type_15, type_16, type_17, type_18, type_19, type_none}
+use Rattle.spec_type_table.proofs.KindLaws.{member_types_lem, param_types_lem, type_0, type_1, type_2, type_3, type_4, type_5, type_6, type_7, type_8, type_9, type_10, type_11, type_12, type_13, type_14, type_15, type_16, type_17, type_18, type_19, type_none}
 use Rattle.spec_type_table.proofs.KindNames.{IsKind, is}
 
 module _ (b : TypeTable) (s : List ℕ) (t : Record) where
@@ -130,3 +130,6 @@ module _ (b : TypeTable) (s : List ℕ) (t : Record) where
 
 -- all of them, for `grind`
 pub ruleset kind_types = (type_void, type_int, type_ptr, type_array, type_struct, type_union, type_enum, type_fwd, type_typedef, type_volatile, type_const, type_restrict, type_func, type_func_proto, type_var, type_datasec, type_float, type_decl_tag, type_type_tag, type_enum64, type_unknown)
+
+-- and what a member list and a parameter list of a type are: for `node_of`
+pub ruleset node_types = (kind_types, member_types_lem, param_types_lem)

@@ -9,9 +9,8 @@ use Rattle.spec_bytes.specs.words.Words.{get_word, put_word, one_more}
 use Rattle.spec_bytes.specs.words.Three.{three_in}
 use Rattle.spec_type_table.specs.declared.types.TypeTable.{TypeTable}
 use Rattle.spec_type_table.specs.declared.types.BtfType.{BtfType as Record}
-use Rattle.spec_type_table.specs.declared.types.Entries.{Entries}
 use Rattle.spec_type_table.specs.Cells.{place_of, class_p, count_p, count_after, count_raised, with_more, get_field}
-use Rattle.spec_type_table.specs.Records.{section_word, section_three, record_at, void_record, record_by_id, entries_of, member_at, member_of, flag_of}
+use Rattle.spec_type_table.specs.Records.{section_word, section_three, record_at, void_record, record_by_id, member_at, member_of, flag_of}
 
 module _ (t f g : ℕ) where
   pub place_type : (h : ℕ) → h < t → h * 16 + f ≡ place_of t f g h
@@ -79,9 +78,9 @@ module _ (b : TypeTable) (s : List ℕ) where
   unfolding record_by_id
   by_id w id at r n l f e = rw (ne_eqb id 0 n, record_by_id, lt-leb b.types id l) (e ∙ ap (record_at b s) f)
 
-  module _ (t : Record) (k p : ℕ) (w : List ℕ) (e : Entries) (ee : e ≡ entries_of t) (ep : p ≡ member_at e.at k) (ew : w ≡ section_three b s p) where
+  module _ (t : Record) (k p : ℕ) (w : List ℕ) (ep : p ≡ member_at t.at k) (ew : w ≡ section_three b s p) where
     at_member : (j : ℕ) → get_or w j 0 ≡ get_or (section_three b s (member_at t.at k)) j 0
-    at_member = item (member_at t.at k) w (ew ∙ ap (section_three b s) (ep ∙ ap (λ (x : Entries). member_at x.at k) ee))
+    at_member = item (member_at t.at k) w (ew ∙ ap (section_three b s) ep)
 
     pub member_bits : flag_of t.info ≡ true → record { name_off = get_or w 0 0; type_id = get_or w 1 0; bit_offset = get_or w 2 0 % 16777216; bit_size = get_or w 2 0 / 16777216 } ≡ member_of b s t k
     unfolding member_of section_three

@@ -1,10 +1,10 @@
 -- The code's nodes as the rules have them: the entries of a record stand for the types that they name.
-use Rattle.std.specs.Prelude.{ℕ, ◌+◌, List, ◌∷◌}
+use Rattle.std.specs.Prelude.{ℕ, ◌+◌, true, false, List, ◌∷◌}
 use Rattle.spec_c_dumper.specs.rules.Order.{Node, ignored, plain, listed, through, ptr, tdef, proto, comp}
 use Rattle.spec_type_table.specs.declared.types.TypeTable.{TypeTable}
 use Rattle.spec_type_table.specs.declared.types.Entries.{Entries}
 use Rattle.spec_type_table.specs.declared.node.Node.{Node as Code}
-use Rattle.spec_type_table.specs.declared.node.Node.TheVariants.{Ignored, Plain, Listed, Through, Ptr, Typedef, Proto, Composite}
+use Rattle.spec_type_table.specs.declared.node.Node.TheVariants.{Ignored, Plain, Enum, Fwd, Array, Through, Ptr, Typedef, Proto, Composite}
 use Rattle.spec_type_table.specs.Records.{section_word, member_at, param_at}
 use Rattle.spec_type_table.specs.Table.{from}
 
@@ -19,8 +19,10 @@ module _ (b : TypeTable) (s : List ℕ) where
   unfoldable pub node_is : Code → Node
   node_is Ignored = ignored
   node_is Plain = plain
-  node_is (Listed fwd) = listed fwd
-  node_is (Through a t) = through a t
+  node_is Enum = listed false
+  node_is Fwd = listed true
+  node_is (Array t) = through true t
+  node_is (Through t) = through false t
   node_is (Ptr t) = ptr t
   node_is (Typedef t) = tdef t
   node_is (Proto r e) = proto (r ∷ param_ids e)

@@ -35,12 +35,14 @@ impl Kind {
     pub fn of(info: u32) -> Kind
         ensures { result ≡ kind_named (kind_of info) }
     {
-        Kind::numbered(info / 16777216 % 32)
+        Kind::from(info / 16777216 % 32)
     }
+}
 
+impl From<u32> for Kind {
     #[inline]
     #[tactic(auto, using(crate::proofs::KindNames::unknown), unfolding(crate::specs::Kinds::kind_named))]
-    pub fn numbered(number: u32) -> Kind
+    fn from(number: u32) -> Kind
         ensures { result ≡ kind_named number }
     {
         match number {

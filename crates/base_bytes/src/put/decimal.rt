@@ -4,17 +4,21 @@ ghost use Rattle.spec_bytes.specs.text.Text.{whole};
 ghost use Rattle.spec_bytes.specs.text.Placed.{put_out, put_text};
 ghost use Rattle.spec_bytes.specs.text.Decimal.{decimal};
 
-use crate::put::bytes::put_byte;
+use crate::put::bytes::put_bytes;
 use crate::refusal::Refusal;
+use itoa::{Buffer, Integer};
+
+// Writes a number of any width, with its sign where it has one.
+pub fn put_integer<I: Integer>(text: &mut [u8], at: usize, n: I) -> Result<usize, Refusal>
+    ensures { put_out result text.new ≡ put_text text.old (Ok at) (whole (I.text n)) }
+{
+    let mut digits = Buffer::new();
+    put_bytes(text, at, digits.format(n).as_bytes())
+}
 
 // Writes n.
 pub fn put_decimal(text: &mut [u8], at: usize, n: u64) -> Result<usize, Refusal>
     ensures { put_out result text.new ≡ put_text text.old (Ok at) (whole (decimal n)) }
 {
-    if n < 10 {
-        put_byte(text, at, 48 + (n as u8))
-    } else {
-        let k = put_decimal(text, at, n / 10)?;
-        put_byte(text, k, 48 + ((n % 10) as u8))
-    }
+    put_integer(text, at, n)
 }

@@ -246,7 +246,3 @@ module _ (types : ℕ) (B : Rules) (left : ℕ) (b : TypeTable) (s : List ℕ) (
 -- the table of the loop's work is that of the first
 pub turned : (types left x : ℕ) (w : List ℕ) (B B' : Rules) (r : Answer) (u : List ℕ) → once_of r u ≡ once_with types B' left x w → B' ≡ B → once_of r u ≡ once_with types B left x w
 turned types left x w B B' r u e q = e ∙ ap (λ (C : Rules). once_with types C left x w) q
-
-pub own_height : (a : ℕ) → height_of (Ok (record { align = a; height = 0 })) < 4294967295
-unfolding height_of
-own_height a = omega arith

@@ -6,7 +6,7 @@ use mathlib.Core.Path.{◌≡◌, refl, ap, ◌∙◌, sym, subst}
 use mathlib.Core.Bool.{Bool, true, false, not}
 use mathlib.Core.List.{List}
 use lib.Dec.{eqb}
-use borrow.Author.Tests.{ne_eqb}
+use borrow.Author.Tests.{ne_eqb, not-true, not-false}
 use Rattle.spec_c_dumper.specs.rules.Writer.{Ask, got}
 use Rattle.spec_c_dumper.specs.rules.Types.{Member, Btf as Rules}
 use Rattle.spec_type_table.specs.declared.types.TypeTable.{TypeTable}
@@ -42,14 +42,6 @@ align_seen s m k = found s.align m k
 steady_align : (s : Remembered) → Steady (align_seen s)
 unfolding forget
 steady_align s m k = refl
-
-not_true : (y : Bool) → not y ≡ true → y ≡ false
-not_true true e = sym e
-not_true false e = refl
-
-not_false : (y : Bool) → not y ≡ false → y ≡ true
-not_false true e = refl
-not_false false e = sym e
 
 pub plain_packed : (u : List ℕ) (q : Packed) → forget (plainly (ask_of q) u 0) ≡ ask_in q u
 unfolding ask_of plainly forget ask_in
@@ -118,7 +110,7 @@ module _ (types : ℕ) (B : Rules) where
   module _ (y is : Bool) (q : y ≡ is) (id sz : ℕ) (ms : List Member) (w : List ℕ) where
     pub packed_union : not y ≡ true → ask_in (Ok false) w ≡ packed_at types B is id sz ms w
     unfolding ask_in packed_at packed_once forget
-    packed_union e = let f : is ≡ false = sym q ∙ not_true y e in rw f
+    packed_union e = let f : is ≡ false = sym q ∙ not-true y e in rw f
 
     module _ (e : not y ≡ false) (r : Code) (u : List ℕ) (er : ask_in r u ≡ align_in types B id w) where
       abbrev tested : ℕ → Asking (List ℕ) Bool
@@ -127,7 +119,7 @@ module _ (types : ℕ) (B : Rules) where
       packed_asked : packed_at types B is id sz ms w ≡ next tested (ask_in r u)
       unfolding packed_at packed_once align_in
       packed_asked =
-          let f : is ≡ true = sym q ∙ not_false y e in
+          let f : is ≡ true = sym q ∙ not-false y e in
           ap (λ (p : Bool). forget {M = List ℕ} {A = Bool} (elim p as (λ (q : Bool). Once (List ℕ) Bool) [ false ↦ found false w 0 | true ↦ once_then (alignment_once K 512 B id w 0) tested ])) f
           ∙ then_next tested (λ a. steady_tested K B sz a ms) (alignment_once K 512 B id w 0)
           ∙ ap (next tested) (sym er)

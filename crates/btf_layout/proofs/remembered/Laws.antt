@@ -6,14 +6,14 @@ use mathlib.Core.List.{List}
 use mathlib.Core.Logic.{⊎_elim}
 use borrow.Author.Tests.{lt-ltb, le-ltb, le-leb, lt-leb, ne_eqb}
 use Rattle.spec_bytes.proofs.words.Laws.{le_or_lt}
-use Rattle.std.specs.Prelude.{min, max, Some, None, Result, Ok, Err}
+use Rattle.std.specs.Prelude.{min, max, Option, Some, None, unwrap_or, Result, Ok, Err}
 use Rattle.spec_bytes.specs.declared.refusal.Refusal.{Refusal}
 use Rattle.spec_bytes.specs.declared.refusal.Refusal.TheVariants.{TooDeep}
 use Rattle.spec_c_dumper.specs.rules.Layout.{smaller, larger}
 use Rattle.spec_type_table.specs.Cells.{get_field, put_field}
 use Rattle.btf_layout.specs.declared.remembered.Seen.{Seen as Code}
 use Rattle.spec_c_dumper.specs.alignment_once.Once.{Remembered, Once as Told}
-use Rattle.btf_layout.specs.remembered.Words.{seen_word, coded, with_visits, remembered, seen_is, once_of, height_of, taken_by, kept_with, known_of, decoded, widest_code}
+use Rattle.btf_layout.specs.remembered.Words.{seen_word, coded, some_word, with_visits, remembered, seen_is, once_of, height_of, taken_by, kept_with, known_of, decoded, widest_code}
 
 abbrev Answer : Type 0
 Answer = Result Code Refusal
@@ -49,6 +49,45 @@ module _ (s : Remembered) where
   unfolding coded
   coded_fits h l = rw (le-ltb 15 s.align h, coded, le-ltb 268435454 s.height l)
 
+-- ---- a word that says something
+no_word : (v : ℕ) → v ≡ 0 → None ≡ some_word v
+unfolding some_word
+no_word v e = rw e
+
+one_word : (v : ℕ) → (v ≡ 0 → ⊥) → Some v ≡ some_word v
+unfolding some_word
+one_word v n = rw (ne_eqb v 0 n, some_word)
+
+module _ (s : Remembered) where
+  pub word_wide : 15 < s.align → None ≡ some_word (coded s)
+  word_wide l = no_word _ (sym (coded_wide s l))
+
+  pub word_high : s.align ≤ 15 → 268435454 < s.height → None ≡ some_word (coded s)
+  word_high h l = no_word _ (sym (coded_high s h l))
+
+  module _ (h : s.align ≤ 15) (l : s.height ≤ 268435454) where
+    pub word_zero : s.height * 16 + s.align ≡ 0 → None ≡ some_word (coded s)
+    word_zero e = no_word _ (sym (coded_fits s h l) ∙ e)
+
+    pub word_some : (s.height * 16 + s.align ≡ 0 → ⊥) → Some (s.height * 16 + s.align) ≡ some_word (coded s)
+    word_some n = one_word _ n ∙ ap some_word (coded_fits s h l)
+
+word_none : (n : ℕ) → None ≡ some_word n → n ≡ 0
+word_none n e =
+    ⊎_elim
+    (λ l. absurd (let q : 0 ≡ n = ap (λ (o : Option ℕ). unwrap_or o 0) (e ∙ sym (one_word n (λ z. omega arith))) in omega arith))
+    (λ l. omega arith)
+    (le_or_lt 1 n)
+
+word_is : (n v : ℕ) → Some v ≡ some_word n → (n ≡ v) × (n ≡ 0 → ⊥)
+word_is n v e =
+    ⊎_elim
+    (λ l. (sym (ap (λ (o : Option ℕ). unwrap_or o 0) (e ∙ sym (one_word n (λ z. omega arith)))), λ z. omega arith))
+    (λ l. let z : n ≡ 0 = omega arith in
+    let q = e ∙ sym (no_word n z) in
+    absurd (let a : v ≡ 0 = ap (λ (o : Option ℕ). unwrap_or o 0) q in let b : v ≡ 1 = ap (λ (o : Option ℕ). unwrap_or o 1) q in omega arith))
+    (le_or_lt 1 n)
+
 -- ---- the library's least and largest
 pub min_smaller : (x y : ℕ) → min x y ≡ smaller x y
 unfolding smaller
@@ -81,6 +120,17 @@ module _ (types id v n : ℕ) (w : List ℕ) where
     unfolding remembered
     remember_here l w₁ w₂ e₁ e₂ = rw (ne_eqb v 0 nv, remembered, lt-leb types id l) (e₂ ∙ ap (λ (u : List ℕ). put_field u id 15 v) e₁)
 
+module _ (types id v n : ℕ) (w : List ℕ) where
+  pub remember_unsaid : None ≡ some_word v → w ≡ remembered types id v n w
+  remember_unsaid e = remember_none types id v n w (word_none v e)
+
+  module _ (x : ℕ) (e : Some x ≡ some_word v) where
+    pub remember_beyond : types ≤ id → w ≡ remembered types id v n w
+    remember_beyond l = remember_past types id v n w (word_is v x e).1 l
+
+    pub remember_said : id < types → (w₁ w₂ : List ℕ) → w₁ ≡ with_visits n w → w₂ ≡ put_field w₁ id 15 x → w₂ ≡ remembered types id v n w
+    remember_said l w₁ w₂ e₁ e₂ = remember_here types id v n w (word_is v x e).1 l w₁ w₂ e₁ (e₂ ∙ ap (put_field w₁ id 15) (sym (word_is v x e).0))
+
 module _ (s : Code) (left : ℕ) where
   pub taken_over : left < s.height → Err TooDeep ≡ taken_by s left
   unfolding taken_by
@@ -95,13 +145,13 @@ pub height_of_lem : (r : Answer) (s : Code) → r ≡ Ok s → height_of r ≡ s
 unfolding height_of
 height_of_lem r s e = ap height_of e
 
-module _ (types id n : ℕ) (r : Answer) (w : List ℕ) where
-  pub keep_ok : (s : Code) → r ≡ Ok s → (u : List ℕ) → u ≡ remembered types id (coded (seen_is (record { align = s.align; height = s.height + 1 }))) n w
-      → once_of (Ok (record { align = s.align; height = s.height + 1 })) u ≡ kept_with types id n r w
+module _ (types id n : ℕ) (w : List ℕ) where
+  pub keep_ok : (s : Code) (u : List ℕ) → u ≡ remembered types id (coded (seen_is (record { align = s.align; height = s.height + 1 }))) n w
+      → once_of (Ok (record { align = s.align; height = s.height + 1 })) u ≡ kept_with types id n (Ok s) w
   unfolding once_of kept_with
-  keep_ok s e u eu =
+  keep_ok s u eu =
       ap (once_of (Ok (record { align = s.align; height = s.height + 1 }))) eu
-      ∙ ap (λ (h : ℕ). kept_by (record { align = s.align; height = h })) add_one' ∙ ap (λ (q : Answer). kept_with types id n q w) (sym e)
+      ∙ ap (λ (h : ℕ). kept_by (record { align = s.align; height = h })) add_one'
     where
       add_one' : s.height + 1 ≡ suc s.height
       add_one' = omega arith
@@ -109,6 +159,9 @@ module _ (types id n : ℕ) (r : Answer) (w : List ℕ) where
       kept_by : Remembered → Told (List ℕ) Remembered
       kept_by x = once_of (Ok (record { align = x.align; height = x.height })) (remembered types id (coded x) n w)
 
-  pub keep_err : (c : Refusal) → r ≡ Err c → once_of (Err c) w ≡ kept_with types id n r w
+  pub keep_got : (r : Answer) (s : Code) → r ≡ Ok s → (x : Told (List ℕ) Remembered) → x ≡ kept_with types id n (Ok s) w → x ≡ kept_with types id n r w
+  keep_got r s e x ex = ex ∙ ap (λ (q : Answer). kept_with types id n q w) (sym e)
+
+  pub keep_err : (r : Answer) (c : Refusal) → r ≡ Err c → once_of (Err c) w ≡ kept_with types id n r w
   unfolding once_of kept_with
-  keep_err c e = ap (λ (q : Answer). kept_with types id n q w) (sym e)
+  keep_err r c e = ap (λ (q : Answer). kept_with types id n q w) (sym e)

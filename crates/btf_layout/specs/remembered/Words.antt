@@ -33,6 +33,10 @@ decoded v = elim (eqb v 0) [ true ↦ unknown | false ↦ known (record { align 
 unfoldable pub coded : Remembered → ℕ
 coded s = elim (ltb 15 s.align) [ true ↦ 0 | false ↦ elim (ltb 268435454 s.height) [ true ↦ 0 | false ↦ s.height * 16 + s.align ] ]
 
+-- a word that says something
+unfoldable pub some_word : ℕ → Option ℕ
+some_word v = elim (eqb v 0) [ true ↦ None | false ↦ Some v ]
+
 -- the visits of a type with so many members; the largest number stays
 unfoldable pub with_visits : ℕ → List ℕ → List ℕ
 with_visits members w = put_field w 0 2 (smaller (get_field w 0 2 + members + 1) 4294967295)

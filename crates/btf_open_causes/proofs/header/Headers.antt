@@ -1,6 +1,6 @@
 -- Causes 3 and 4: a law for each return, and that the tests decide what `spec_linux_btf` calls a sound header and sound strings.
 -- Assumes nothing.
-use Prim.Native.Nat.{ℕ, ◌+◌, ◌-◌, ◌<◌, ◌≤◌}
+use Prim.Native.Nat.{ℕ, zero, suc, ◌+◌, ◌-◌, ◌<◌, ◌≤◌}
 use mathlib.Core.Path.{◌≡◌, refl, ap, ◌∙◌, sym}
 use mathlib.Core.Bool.{Bool, true, false, true≢false, ◌&&◌, ◌||◌, not}
 use mathlib.Core.List.{List, [], ◌∷◌}
@@ -8,8 +8,9 @@ use mathlib.Core.Logic.{⊎_elim}
 use native.Mathlib.Omega.{arith}
 use lib.ListN.{length, get_or, take, drop}
 use lib.Dec.{ltb, leb, eqb}
-use Prim.Native.Nat.{max}
-use Rattle.std.specs.List.{fold, starts_with, ends_with}
+use Rattle.std.specs.List.{starts_with, ends_with}
+use Rattle.std.specs.Bool.{MatchBool}
+use Rattle.std.specs.Str.{IsAscii, IsNotAscii}
 use Rattle.std.specs.Cmp.Lexicographic.{pointwise}
 use borrow.Author.Tests.{lt-ltb, le-ltb, le-leb, lt-leb, leb-true}
 use Rattle.spec_bytes.specs.words.Words.{word_in}
@@ -173,22 +174,23 @@ module _ (s : List ℕ) where
           flip : (x y : ℕ) → ltb y x ≡ not (leb x y)
           flip x y = ⊎_elim (λ u. le-ltb y x u ∙ ap not (sym (le-leb x y u))) (λ u. lt-ltb y x u ∙ ap not (sym (lt-leb x y u))) (le_or_lt x y)
 
--- ---- largest, is_bad_area
+-- ---- is_sound_area
+no_larger : (l : List ℕ) → IsAscii l → true ≡ all_ascii l
+no_larger [] h = refl
+no_larger (x ∷ l) h = rw (le-leb x 127 (let q = h 0 in omega arith)) (no_larger l (λ i. h (suc i)))
 
-max_ascii : (m x : ℕ) → leb (max m x) 127 ≡ (leb m 127 && leb x 127)
-max_ascii m x = grind arith
+one_larger : (l : List ℕ) (i : ℕ) → 128 ≤ get_or l i 0 → false ≡ all_ascii l
+one_larger [] i q = absurd (omega arith)
+one_larger (x ∷ l) zero q = rw (lt-leb x 127 (omega arith))
+one_larger (x ∷ l) (suc i) q = go (leb x 127) (one_larger l i q)
+  where
+    go : (t : Bool) → false ≡ all_ascii l → false ≡ (t && all_ascii l)
+    go true e = e
+    go false e = refl
 
-largest_ascii : (l : List ℕ) (m : ℕ) → leb (fold max m l) 127 ≡ (leb m 127 && all_ascii l)
-largest_ascii [] m = yes (leb m 127)
-  where
-    yes : (t : Bool) → t ≡ (t && true)
-    yes true = refl
-    yes false = refl
-largest_ascii (x ∷ l) m = largest_ascii l (max m x) ∙ ap (λ (t : Bool). t && all_ascii l) (max_ascii m x) ∙ assoc (leb m 127) (leb x 127) (all_ascii l)
-  where
-    assoc : (a b c : Bool) → ((a && b) && c) ≡ (a && (b && c))
-    assoc true b c = refl
-    assoc false b c = refl
+ascii_is : (l : List ℕ) (r : Bool) → MatchBool r (IsAscii l) (IsNotAscii l) → r ≡ all_ascii l
+ascii_is l true h = no_larger l h
+ascii_is l false h = one_larger l h.0 h.1
 
 begins_zero : (a : List ℕ) → starts_with eqb a (0 ∷ []) ≡ (leb 1 (length a) && eqb (get_or a 0 1) 0)
 begins_zero [] = refl
@@ -228,9 +230,9 @@ module _ (a : List ℕ) where
     unfolding strings_sound
     area_last f = rw (in_front, zero_first, sym (ends_zero a e) ∙ f)
 
-    pub area_all : ends_with eqb a (0 ∷ []) ≡ true → (m : ℕ) → m ≡ fold max 0 a → leb m 127 ≡ strings_sound a
+    pub area_all : ends_with eqb a (0 ∷ []) ≡ true → (r : Bool) → MatchBool r (IsAscii a) (IsNotAscii a) → r ≡ strings_sound a
     unfolding strings_sound
-    area_all f m g = rw (in_front, zero_first, sym (ends_zero a e) ∙ f, g) (largest_ascii a 0)
+    area_all f r g = rw (in_front, zero_first, sym (ends_zero a e) ∙ f) (ascii_is a r g)
 
 -- ---- has_bad_strings
 module _ (s : List ℕ) (h : Header) (e : h ≡ header_of s) where

@@ -4,6 +4,8 @@ use mathlib.Core.Path.{◌≡◌, refl, ap, ◌∙◌, sym}
 use mathlib.Core.Bool.{Bool, true, false, true≢false, ◌&&◌}
 use mathlib.Core.List.{List, [], ◌∷◌}
 use Rattle.std.specs.Prelude.{Option, Some, None}
+use Rattle.std.specs.List.{list_all, range_with_len}
+use Rattle.std.proofs.lemmas.Bool.{and_left as no_left, and_right as no_right}
 use mathlib.Core.Logic.{⊎_elim, ◌⊎◌, inl, inr}
 use native.Mathlib.Omega.{arith}
 use native.Mathlib.Decide.{ℕ_discrete}
@@ -38,32 +40,32 @@ kind_past k h = get_or-eq_default (none ∷ INT ∷ PTR ∷ ARRAY ∷ STRUCT ∷
 
 -- ---- named_entry
 module _ (k : ℕ) where
-  pub width_low : k < 4 → 0 ≡ entry_width (kind k)
+  pub width_low : k < 4 → None ≡ entry_width (kind k)
   unfolding entry_width kind
-  width_low h = sym (steady (λ (j : ℕ). entry_width (kind j)) 0 0 4 k (refl, (refl, (refl, (refl, tt)))) zero-le h)
+  width_low h = sym (steady (λ (j : ℕ). entry_width (kind j)) None 0 4 k (refl, (refl, (refl, (refl, tt)))) zero-le h)
 
-  pub width_composite : 4 ≤ k → k < 6 → 12 ≡ entry_width (kind k)
+  pub width_composite : 4 ≤ k → k < 6 → Some 12 ≡ entry_width (kind k)
   unfolding entry_width kind
-  width_composite a b = sym (steady (λ (j : ℕ). entry_width (kind j)) 12 4 2 k (refl, (refl, tt)) a b)
+  width_composite a b = sym (steady (λ (j : ℕ). entry_width (kind j)) (Some 12) 4 2 k (refl, (refl, tt)) a b)
 
-  pub width_eight : (k ≡ 6) ⊎ (k ≡ 13) → 8 ≡ entry_width (kind k)
+  pub width_eight : (k ≡ 6) ⊎ (k ≡ 13) → Some 8 ≡ entry_width (kind k)
   unfolding entry_width kind
   width_eight (inl e) = rw e
   width_eight (inr e) = rw e
 
-  pub width_last : k ≡ 19 → 12 ≡ entry_width (kind k)
+  pub width_last : k ≡ 19 → Some 12 ≡ entry_width (kind k)
   unfolding entry_width kind
   width_last e = rw e
 
-  pub width_high : 6 ≤ k → ((k ≡ 6) ⊎ (k ≡ 13) → ⊥) → (k ≡ 19 → ⊥) → 0 ≡ entry_width (kind k)
+  pub width_high : 6 ≤ k → ((k ≡ 6) ⊎ (k ≡ 13) → ⊥) → (k ≡ 19 → ⊥) → None ≡ entry_width (kind k)
   unfolding entry_width kind
   width_high h m n =
       ⊎_elim
       (λ l. ⊎_elim
       (λ a. rw (kind_past k a))
-      (λ a. sym (steady (λ (j : ℕ). entry_width (kind j)) 0 14 5 k (refl, (refl, (refl, (refl, (refl, tt))))) l (less a)))
+      (λ a. sym (steady (λ (j : ℕ). entry_width (kind j)) None 14 5 k (refl, (refl, (refl, (refl, (refl, tt))))) l (less a)))
       (le_or_lt 20 k))
-      (λ l. sym (steady (λ (j : ℕ). entry_width (kind j)) 0 7 6 k (refl, (refl, (refl, (refl, (refl, (refl, tt)))))) above (below l)))
+      (λ l. sym (steady (λ (j : ℕ). entry_width (kind j)) None 7 6 k (refl, (refl, (refl, (refl, (refl, (refl, tt)))))) above (below l)))
       (le_or_lt 14 k)
     where
       not6 : k ≡ 6 → ⊥
@@ -82,83 +84,84 @@ module _ (k : ℕ) where
       less a = omega (arith, n)
 
 -- ---- are_names_inside
-module _ (sl width : ℕ) (w : ℕ → ℕ) (q left : ℕ) (a : Bool) where
-  one_fewer : (left ≡ 0 → ⊥) → all_named_p sl width w q left ≡ (ltb (w q) sl && all_named_p sl width w (q + width) (left - 1))
-  one_fewer h = let e : left ≡ suc (left - 1) = omega arith in ap (λ (n : ℕ). all_named_p sl width w q n) e
-
-  pub names_more : a ≡ all_named_p sl width w q left → (left ≡ 0 → ⊥) → (v : ℕ) → v ≡ w q → v < sl → a ≡ all_named_p sl width w (q + width) (left - 1)
-  names_more e h v f l = e ∙ one_fewer h ∙ rw (lt-ltb (w q) sl (omega arith))
-
-  pub names_all : a ≡ all_named_p sl width w q left → left ≡ 0 → true ≡ a
-  names_all e h = sym (e ∙ ap (λ (n : ℕ). all_named_p sl width w q n) h)
+pub names_range : (sl width : ℕ) (w : ℕ → ℕ) (first k n : ℕ)
+    → list_all (λ (i : ℕ). ltb (w (first + i * width)) sl) (range_with_len k n) ≡ all_named_p sl width w (first + k * width) n
+names_range sl width w first k zero = refl
+names_range sl width w first k (suc n) =
+    let z : k + 1 ≡ suc k = omega arith in
+    let y : first + suc k * width ≡ first + k * width + width = omega arith in
+    ap (λ (t : Bool). ltb (w (first + k * width)) sl && t)
+    (ap (λ (i : ℕ). list_all (λ (j : ℕ). ltb (w (first + j * width)) sl) (range_with_len i n)) z
+    ∙ names_range sl width w first (suc k) n
+    ∙ ap (λ (q : ℕ). all_named_p sl width w q n) y)
 
 -- ---- are_record_names_inside
-none_named : (sl : ℕ) (k : Kind) (v : ℕ) (w : ℕ → ℕ) (q : ℕ) → entry_width k ≡ 0 → entries_named_p sl k v w q ≡ true
+none_named : (sl : ℕ) (k : Kind) (v : ℕ) (w : ℕ → ℕ) (q : ℕ) → entry_width k ≡ None → entries_named_p sl k v w q ≡ true
 unfolding entry_width
 none_named sl none v w q e = refl
 none_named sl INT v w q e = refl
 none_named sl PTR v w q e = refl
 none_named sl ARRAY v w q e = refl
-none_named sl STRUCT v w q e = absurd (omega arith)
-none_named sl UNION v w q e = absurd (omega arith)
-none_named sl ENUM v w q e = absurd (omega arith)
+none_named sl STRUCT v w q e = absurd (cc)
+none_named sl UNION v w q e = absurd (cc)
+none_named sl ENUM v w q e = absurd (cc)
 none_named sl FWD v w q e = refl
 none_named sl TYPEDEF v w q e = refl
 none_named sl VOLATILE v w q e = refl
 none_named sl CONST v w q e = refl
 none_named sl RESTRICT v w q e = refl
 none_named sl FUNC v w q e = refl
-none_named sl FUNC-PROTO v w q e = absurd (omega arith)
+none_named sl FUNC-PROTO v w q e = absurd (cc)
 none_named sl VAR v w q e = refl
 none_named sl DATASEC v w q e = refl
 none_named sl FLOAT v w q e = refl
 none_named sl DECL-TAG v w q e = refl
 none_named sl TYPE-TAG v w q e = refl
-none_named sl ENUM64 v w q e = absurd (omega arith)
+none_named sl ENUM64 v w q e = absurd (cc)
 
-each_named : (sl : ℕ) (k : Kind) (v : ℕ) (w : ℕ → ℕ) (q : ℕ) → (entry_width k ≡ 0 → ⊥) → all_named_p sl (entry_width k) w q v ≡ entries_named_p sl k v w q
+each_named : (sl : ℕ) (k : Kind) (v : ℕ) (w : ℕ → ℕ) (q n : ℕ) → entry_width k ≡ Some n → all_named_p sl n w q v ≡ entries_named_p sl k v w q
 unfolding entry_width
-each_named sl none v w q e = absurd (e refl)
-each_named sl INT v w q e = absurd (e refl)
-each_named sl PTR v w q e = absurd (e refl)
-each_named sl ARRAY v w q e = absurd (e refl)
-each_named sl STRUCT v w q e = refl
-each_named sl UNION v w q e = refl
-each_named sl ENUM v w q e = refl
-each_named sl FWD v w q e = absurd (e refl)
-each_named sl TYPEDEF v w q e = absurd (e refl)
-each_named sl VOLATILE v w q e = absurd (e refl)
-each_named sl CONST v w q e = absurd (e refl)
-each_named sl RESTRICT v w q e = absurd (e refl)
-each_named sl FUNC v w q e = absurd (e refl)
-each_named sl FUNC-PROTO v w q e = refl
-each_named sl VAR v w q e = absurd (e refl)
-each_named sl DATASEC v w q e = absurd (e refl)
-each_named sl FLOAT v w q e = absurd (e refl)
-each_named sl DECL-TAG v w q e = absurd (e refl)
-each_named sl TYPE-TAG v w q e = absurd (e refl)
-each_named sl ENUM64 v w q e = refl
+each_named sl none v w q n e = absurd (cc)
+each_named sl INT v w q n e = absurd (cc)
+each_named sl PTR v w q n e = absurd (cc)
+each_named sl ARRAY v w q n e = absurd (cc)
+each_named sl STRUCT v w q n e = let d : n ≡ 12 = cc in ap (λ (j : ℕ). all_named_p sl j w q v) d
+each_named sl UNION v w q n e = let d : n ≡ 12 = cc in ap (λ (j : ℕ). all_named_p sl j w q v) d
+each_named sl ENUM v w q n e = let d : n ≡ 8 = cc in ap (λ (j : ℕ). all_named_p sl j w q v) d
+each_named sl FWD v w q n e = absurd (cc)
+each_named sl TYPEDEF v w q n e = absurd (cc)
+each_named sl VOLATILE v w q n e = absurd (cc)
+each_named sl CONST v w q n e = absurd (cc)
+each_named sl RESTRICT v w q n e = absurd (cc)
+each_named sl FUNC v w q n e = absurd (cc)
+each_named sl FUNC-PROTO v w q n e = let d : n ≡ 8 = cc in ap (λ (j : ℕ). all_named_p sl j w q v) d
+each_named sl VAR v w q n e = absurd (cc)
+each_named sl DATASEC v w q n e = absurd (cc)
+each_named sl FLOAT v w q n e = absurd (cc)
+each_named sl DECL-TAG v w q n e = absurd (cc)
+each_named sl TYPE-TAG v w q n e = absurd (cc)
+each_named sl ENUM64 v w q n e = let d : n ≡ 12 = cc in ap (λ (j : ℕ). all_named_p sl j w q v) d
 
 module _ (sl : ℕ) (w : ℕ → ℕ) (info p v : ℕ) (f : v ≡ w p) where
   pub record_no : sl ≤ v → false ≡ named_by sl w info p
   unfolding named_by
   record_no l = rw (le-ltb (w p) sl (omega arith))
 
-  module _ (l : v < sl) (k : ℕ) (g : k ≡ kind_of info) (n : ℕ) (h : n ≡ entry_width (kind k)) where
-    width_is : entry_width (kind (kind_of info)) ≡ n
+  module _ (l : v < sl) (k : ℕ) (g : k ≡ kind_of info) (o : Option ℕ) (h : o ≡ entry_width (kind k)) where
+    width_is : entry_width (kind (kind_of info)) ≡ o
     width_is = sym (h ∙ ap (λ (j : ℕ). entry_width (kind j)) g)
 
-    pub record_none : n ≡ 0 → true ≡ named_by sl w info p
+    pub record_none : o ≡ None → true ≡ named_by sl w info p
     unfolding named_by
     record_none e = rw (lt-ltb (w p) sl (omega arith)) (sym (none_named sl (kind (kind_of info)) (vlen_of info) w (p + 12) (width_is ∙ e)))
 
-    pub record_each : (n ≡ 0 → ⊥) → (m : ℕ) → m ≡ vlen_of info → (r : Bool) → r ≡ all_named_p sl n w (p + 12) m → r ≡ named_by sl w info p
+    pub record_each : (n : ℕ) → o ≡ Some n → (m : ℕ) → m ≡ vlen_of info → (r : Bool) → r ≡ all_named_p sl n w (p + 12) m → r ≡ named_by sl w info p
     unfolding named_by
-    record_each z m d r e =
+    record_each n z m d r e =
         rw (lt-ltb (w p) sl (omega arith))
         (e
-        ∙ (λ i. all_named_p sl (sym width_is i) w (p + 12) (d i))
-        ∙ each_named sl (kind (kind_of info)) (vlen_of info) w (p + 12) (λ y. z (sym width_is ∙ y)))
+        ∙ ap (λ (j : ℕ). all_named_p sl n w (p + 12) j) d
+        ∙ each_named sl (kind (kind_of info)) (vlen_of info) w (p + 12) n (width_is ∙ z))
 
 -- ---- enumerators_of
 module _ (info k : ℕ) (e : k ≡ kind_of info) where
@@ -172,13 +175,6 @@ module _ (info k : ℕ) (e : k ≡ kind_of info) where
   enums_none m = rw (enums_of, ← e, ne_eqb k 6 (λ f. m (inl f)), ne_eqb k 19 (λ f. m (inr f)))
 
 -- ---- next_record
-no_left : (a b : Bool) → a ≡ false → (a && b) ≡ false
-no_left a b e = rw e
-
-no_right : (a b : Bool) → b ≡ false → (a && b) ≡ false
-no_right true b e = e
-no_right false b e = refl
-
 abbrev tests_by : ℕ → ℕ → ℕ → Bool
 tests_by end p y =
     leb (p + 12) end

@@ -11,27 +11,27 @@ use Rattle.spec_linux_btf.specs.Section.{word_of}
 use Rattle.btf_open_causes.specs.declared.records.Counts.{Counts}
 
 -- how long an entry with a name is, of the kinds that have such
-unfoldable pub entry_width : Kind → ℕ
-entry_width none = 0
-entry_width INT = 0
-entry_width PTR = 0
-entry_width ARRAY = 0
-entry_width STRUCT = 12
-entry_width UNION = 12
-entry_width ENUM = 8
-entry_width FWD = 0
-entry_width TYPEDEF = 0
-entry_width VOLATILE = 0
-entry_width CONST = 0
-entry_width RESTRICT = 0
-entry_width FUNC = 0
-entry_width FUNC-PROTO = 8
-entry_width VAR = 0
-entry_width DATASEC = 0
-entry_width FLOAT = 0
-entry_width DECL-TAG = 0
-entry_width TYPE-TAG = 0
-entry_width ENUM64 = 12
+unfoldable pub entry_width : Kind → Option ℕ
+entry_width none = None
+entry_width INT = None
+entry_width PTR = None
+entry_width ARRAY = None
+entry_width STRUCT = Some 12
+entry_width UNION = Some 12
+entry_width ENUM = Some 8
+entry_width FWD = None
+entry_width TYPEDEF = None
+entry_width VOLATILE = None
+entry_width CONST = None
+entry_width RESTRICT = None
+entry_width FUNC = None
+entry_width FUNC-PROTO = Some 8
+entry_width VAR = None
+entry_width DATASEC = None
+entry_width FLOAT = None
+entry_width DECL-TAG = None
+entry_width TYPE-TAG = None
+entry_width ENUM64 = Some 12
 
 -- named_p of a record whose info word is known
 unfoldable pub named_by : ℕ → (ℕ → ℕ) → ℕ → ℕ → Bool

@@ -2,35 +2,32 @@
 ghost use Rattle.std.specs.Prelude.{◌≡◌};
 ghost use Rattle.btf_open_causes.specs.references.References.{is_bad, is_some_bad, has_bad_reference};
 
-use crate::references::index::{count, count_at, entry, id_at, kind_at};
-use btf_type_table::table::Table;
-use spec_type_table::{Kind, TypeTable};
+use crate::references::index::Index;
+use spec_type_table::Kind;
 
-fn is_bad(b: TypeTable, start: &[u32], y: u32) -> bool
-    ensures { result ≡ is_bad b start.now y }
+fn is_bad(i: &Index, y: u32) -> bool
+    ensures { result ≡ is_bad i.now.table.head i.now.start.now y }
 {
-    let n = count(b);
+    let n = i.count();
     if n <= y {
         return true;
     }
-    match Kind::numbered(kind_at(b, start, y)) {
-        Kind::Func | Kind::Var | Kind::Datasec | Kind::DeclTag => true,
-        _ => false,
-    }
+    matches!(
+        i.kind_at(y),
+        Kind::Func | Kind::Var | Kind::Datasec | Kind::DeclTag
+    )
 }
 
-fn is_some_bad(b: &Table, start: &[u32], x: u32) -> bool
-    ensures { result ≡ is_some_bad b.now.head b.now.section.now start.now x }
+fn is_some_bad(i: &Index, x: u32) -> bool
+    ensures { result ≡ is_some_bad i.now.table.head i.now.table.section.now i.now.start.now x }
 {
-    let e = entry(b.head, start, x);
-    let kind = e % 32;
-    let at = e / 32;
-    let n = count_at(b, kind, at);
-    (0..n).any(|k| is_bad(b.head, start, id_at(b, kind, at, k)))
+    let e = i.entry(x);
+    let n = i.count_at(e);
+    (0..n).any(|k| is_bad(i, i.id_at(e, k)))
 }
 
-pub fn has_bad_reference(b: &Table, start: &[u32]) -> bool
-    ensures { result ≡ has_bad_reference b.now.head b.now.section.now start.now }
+pub fn has_bad_reference(i: &Index) -> bool
+    ensures { result ≡ has_bad_reference i.now.table.head i.now.table.section.now i.now.start.now }
 {
-    (0..count(b.head)).any(|x| is_some_bad(b, start, x))
+    (0..i.count()).any(|x| is_some_bad(i, x))
 }

@@ -115,10 +115,6 @@ word_up : (types a c : ℕ) → a ≤ c → enumerator_word types a ≤ enumerat
 unfolding enumerator_word
 word_up types a c l = omega arith
 
-word_past : (types e : ℕ) → types * 16 ≤ enumerator_word types e
-unfolding enumerator_word
-word_past types e = omega arith
-
 -- ---- all of them
 module _ (b : TypeTable) (s start : List ℕ) where
   some_enum : (entry k : ℕ) → k < values_at b s entry → is_enum (entry % 32) ≡ true

@@ -59,13 +59,8 @@ pub suffixed_none : (s : List ℕ) → false ≡ any_suffix (name_in (key_of s 2
 unfolding any_suffix
 suffixed_none s = sym (ap (λ (l : List ℕ). any_suffix (name_in l)) (key_none s 2 0 refl))
 
--- ---- base_of, turn by turn
+-- ---- a walk over holders for a base, turn by turn
 module _ (key : ℕ → List ℕ) (h n : ℕ) where
-  none_from : (f c : ℕ) → f ≡ 0 → base_from key h f c ≡ 0
-  unfolding base_from
-  none_from zero c e = refl
-  none_from (suc f) c e = absurd (omega arith)
-
   some_from : (f c m : ℕ) → 0 < f → m ≡ suffix_on (key c) (key h) → base_from key h f c ≡ elim (leb 2 m) as (λ z. ℕ) [ true ↦ c | false ↦ base_from key h (f - 1) (c + 1) ]
   unfolding base_from
   some_from zero c m l e = absurd (omega arith)
@@ -75,9 +70,6 @@ module _ (key : ℕ → List ℕ) (h n : ℕ) where
       ∙ ap₂ (λ (x y : ℕ). elim (leb 2 m) as (λ z. ℕ) [ true ↦ c | false ↦ base_from key h x y ]) p (sym (add-one c))
 
   module _ (r c : ℕ) (inv : r ≡ base_from key h (n - c) c) where
-    pub base_end : n ≤ c → 0 ≡ r
-    base_end l = sym (inv ∙ none_from (n - c) c (omega arith))
-
     pub base_found : (m : ℕ) → c < n → m ≡ suffix_on (key c) (key h) → 2 ≤ m → c ≡ r
     base_found m l e g = sym (inv ∙ some_from (n - c) c m (omega arith) e ∙ ap (λ (t : Bool). elim t as (λ z. ℕ) [ true ↦ c | false ↦ base_from key h (n - c - 1) (c + 1) ]) (le-leb 2 m g))
 

@@ -16,8 +16,7 @@ use Rattle.btf_open_names.specs.name_classes.Classes.{fill, noughts, key_of, key
 use Rattle.btf_open_names.specs.name_classes.Table.{hash_key, bucket_of}
 use Rattle.btf_open_names.proofs.name_classes.Fill.{fill_length, get_else, get_fill, put_else, put_fill, fill_same}
 use Rattle.std.proofs.Common.{Option, None, Some}
-use Rattle.btf_open_names.specs.holders.Holders.{holders_in, pair_cleared}
-use Rattle.btf_open_names.proofs.holders.Laws.{pair_is}
+use Rattle.btf_open_names.specs.holders.Holders.{holders_in}
 use Rattle.btf_open_names.specs.hash_table.Hashed.{first_p, later_p, space_in, falls, first_from, first_of, later_of, over, table_from, put_first, all_zero, has_room, table_in, Table}
 use Rattle.btf_open_names.proofs.hash_table.Places.{first_one, later_one, first_in, later_in, later_first, over_zero, keys_over}
 
@@ -312,8 +311,3 @@ module _ (b : TypeTable) (s : List ℕ) (e : ℕ) (w₀ : List ℕ) where
               ∙ get_fill (later_p t) (later_one t) L w₀ c n l (omega (arith, later_in t e c (rw (← en) l), room_here.long))
               ∙ ap (λ (k : ℕ → List ℕ). later_of k n 1 c) (sym (table_keys 1 w g));
         }
-
--- ---- the table cleared
-pub over_pair : (t n : ℕ) (w : List ℕ) → pair_cleared (first_p t) (later_p t) w n ≡ over t n noughts noughts w
-unfolding over
-over_pair t n w = pair_is (first_p t) (later_p t) w n (later_first t)

@@ -5,18 +5,15 @@ use mathlib.Core.List.{List}
 use mathlib.Core.Bool.{Bool, true, false}
 use mathlib.Core.Logic.{⊎_elim, ◌≢◌}
 use native.Mathlib.Omega.{arith}
-use native.Mathlib.Numerals.{add-one}
 use lib.ListN.{length}
 use lib.Dec.{ltb, eqb}
 use borrow.Author.Tests.{lt-ltb, le-ltb, ne_eqb, eq-eqb, ltb-false}
 use Rattle.std.proofs.Common.{Option, None, Some}
 use Rattle.btf_open_names.proofs.Ranges.{Asked, below}
 use Rattle.spec_bytes.proofs.words.Laws.{le_or_lt}
-use Rattle.spec_bytes.specs.words.Words.{get_word, put_word}
-use Rattle.btf_open_names.specs.name_classes.Classes.{fill, noughts}
+use Rattle.spec_bytes.specs.words.Words.{get_word}
 use Rattle.btf_open_names.specs.hash_table.Hashed.{all_zero}
-use Rattle.btf_open_names.specs.holders.Holders.{holders_in, pair_cleared}
-use Rattle.btf_open_names.proofs.name_classes.Fill.{fill_both}
+use Rattle.btf_open_names.specs.holders.Holders.{holders_in}
 
 -- ---- how many there are
 module _ (t e : ℕ) (w : List ℕ) where
@@ -48,22 +45,6 @@ module _ (t e : ℕ) (w : List ℕ) where
       go true q ep eq r = absurd (cc)
       go false true ep eq r = absurd (cc)
       go false false ep eq r = record { is = (cc); numbered = ltb-false (4294967295 - t) e ep; long = ltb-false (length w / 4) (t * 16 + e * 8) eq }
-
--- ---- two words of each set to 0
-pub pair_is : (at to : ℕ → ℕ) (w : List ℕ) (n : ℕ) → ((i j : ℕ) → to i ≢ at j) → pair_cleared at to w n ≡ fill at noughts (fill to noughts w n) n
-unfolding pair_cleared fill
-pair_is at to w zero o = refl
-pair_is at to w (suc n) o =
-    fill_both at to noughts noughts w (pair_cleared at to w n) _ _ n o (pair_is at to w n o) refl refl
-    ∙ ap (λ (i : ℕ). fill at noughts (fill to noughts w i) i) (add-one n)
-
-pub pair_none : (at to : ℕ → ℕ) (w : List ℕ) → w ≡ pair_cleared at to w 0
-unfolding pair_cleared
-pair_none at to w = refl
-
-pub pair_more : (at to : ℕ → ℕ) (w₀ w u v : List ℕ) (k : ℕ) → w ≡ pair_cleared at to w₀ k → u ≡ put_word w (to k) 0 → v ≡ put_word u (at k) 0 → v ≡ pair_cleared at to w₀ (k + 1)
-unfolding pair_cleared
-pair_more at to w₀ w u v k e f g = rw (add-one, ← e, ← f) g
 
 -- ---- a word of each is 0
 module _ (at : ℕ → ℕ) (w : List ℕ) where

@@ -1,16 +1,18 @@
 -- Laws of names: a name is empty, or a byte that is not 0 and the name from the next place on. Assumes nothing.
-use Prim.Native.Nat.{ℕ, zero, suc, ◌+◌, ◌≤◌}
+use Prim.Native.Nat.{ℕ, zero, suc, ◌+◌, ◌-◌, ◌≤◌}
 use mathlib.Core.Path.{◌≡◌, refl, ap, ap₂, ◌∙◌, sym}
 use mathlib.Core.List.{List, [], ◌∷◌}
 use mathlib.Core.Bool.{Bool, true, false}
 use mathlib.Core.Logic.{⊎_elim}
 use native.Mathlib.Omega.{arith}
-use native.Mathlib.Nat.{add-zero}
 use native.Mathlib.Numerals.{add-one}
-use lib.ListN.{length, get_or, drop, drop_of_length-le, get_or-eq_default}
+use lib.ListN.{length, get_or, take, drop, length-drop, drop_of_length-le, get_or-eq_default}
 use lib.Seq.{drop-cons}
 use borrow.Author.Tests.{eq-eqb, ne_eqb, eqb-true}
 use lib.Dec.{eqb}
+use Rattle.std.specs.Prelude.{not, cond, fold, take_while}
+use Rattle.std.proofs.lemmas.List.{take_all}
+use Rattle.std.proofs.lemmas.List.Sums.{take_while-cons}
 use Rattle.spec_bytes.proofs.words.Laws.{le_or_lt}
 use Rattle.spec_type_table.specs.Names.{up_to_zero, name_at}
 use Rattle.btf_open_names.specs.name_classes.Same.{same_list}
@@ -42,19 +44,24 @@ module _ (s : List ℕ) (i : ℕ) where
       (λ h. rw add-one (ap up_to_zero (drop-cons s i 0 h) ∙ up_more _ _ n))
       (le_or_lt (length s) i)
 
--- ---- the hash, turn by turn
-module _ (s : List ℕ) (h acc k : ℕ) (inv : h ≡ hash_from acc (name_at s k)) where
-  pub hash_end : length s ≤ k → acc ≡ h
-  unfolding hash_from
-  hash_end l = sym (inv ∙ ap (hash_from acc) (name_end s k l))
+-- the section from a place on has the name there at its front
+module _ (s : List ℕ) (at : ℕ) where
+  pub name_of_rest : (l : List ℕ) → l ≡ drop at s → up_to_zero l ≡ name_at s at
+  unfolding name_at
+  name_of_rest l e = ap up_to_zero e
 
-  pub hash_zero : get_or s k 0 ≡ 0 → acc ≡ h
-  unfolding hash_from
-  hash_zero e = sym (inv ∙ ap (hash_from acc) (name_zero s k e))
+  pub name_of_part : up_to_zero (take (length s - at) (drop at s)) ≡ name_at s at
+  name_of_part = name_of_rest (take (length s - at) (drop at s)) (take_all (length s - at) (drop at s) (omega (arith, length-drop at s)))
 
-  pub hash_more : (acc' : ℕ) → (get_or s k 0 ≡ 0 → ⊥) → acc' ≡ step_of acc (get_or s k 0) → h ≡ hash_from acc' (name_at s (k + 1))
-  unfolding hash_from
-  hash_more acc' n e = inv ∙ ap (hash_from acc) (name_more s k n) ∙ ap (λ (a : ℕ). hash_from a (name_at s (k + 1))) (sym e)
+-- ---- the hash
+pub hash_of_name : (acc : ℕ) (l : List ℕ) → fold step_of acc (take_while (λ (x : ℕ). not (eqb x 0)) l) ≡ hash_from acc (up_to_zero l)
+unfolding hash_from up_to_zero
+hash_of_name acc [] = refl
+hash_of_name acc (zero ∷ l) = refl
+hash_of_name acc (suc x ∷ l) =
+    let n : suc x ≡ 0 → ⊥ = omega arith in
+    ap (fold step_of acc) (take_while-cons (λ (y : ℕ). not (eqb y 0)) (suc x) l ∙ ap (λ (t : Bool). cond (not t) (suc x ∷ take_while (λ (y : ℕ). not (eqb y 0)) l) []) (ne_eqb (suc x) 0 n))
+    ∙ hash_of_name (step_of acc (suc x)) l
 
 -- ---- two names
 pub same_heads : (x y : ℕ) (xs ys : List ℕ) → x ≡ y → same_list (x ∷ xs) (y ∷ ys) ≡ same_list xs ys
@@ -84,44 +91,39 @@ same_equal (x ∷ xs) (y ∷ ys) e = step (eqb x y) refl e (same_equal xs ys)
 pub same_from : (x y : List ℕ) → x ≡ y → true ≡ same_list x y
 same_from x y e = rw e (sym (same_self y))
 
-module _ (s : List ℕ) (a b : ℕ) where
-  pub names_start : same_list (name_at s a) (name_at s b) ≡ same_list (name_at s (a + 0)) (name_at s (b + 0))
-  names_start = rw (add-zero a, add-zero b)
+module _ (x y : List ℕ) (all : Bool) (k : ℕ) (inv : all ≡ same_list (name_at x k) (name_at y k)) where
+  pub names_end : length x ≤ k → (b : ℕ) → b ≡ get_or y k 0 → eqb b 0 ≡ all
+  unfolding same_list
+  names_end l b e = sym (inv ∙ ap (λ (n : List ℕ). same_list n (name_at y k)) (name_end x k l) ∙ ⊎_elim
+      (λ m. let z : b ≡ 0 = omega arith in ap (same_list []) (name_zero y k (sym e ∙ z)) ∙ sym (eq-eqb b 0 z))
+      (λ m. ap (same_list []) (name_more y k (λ q. omega (arith, e, q))) ∙ sym (ne_eqb b 0 (omega arith)))
+      (le_or_lt b 0))
 
-  module _ (all : Bool) (k : ℕ) (inv : all ≡ same_list (name_at s (a + k)) (name_at s (b + k))) where
-    pub names_end : length s ≤ k → true ≡ all
-    names_end l = same_from _ _ (name_end s (a + k) (omega arith) ∙ sym (name_end s (b + k) (omega arith))) ∙ sym inv
+  module _ (a b : ℕ) (ea : a ≡ get_or x k 0) (eb : b ≡ get_or y k 0) where
+    pub names_differ : (a ≡ b → ⊥) → false ≡ all
+    unfolding same_list
+    names_differ n = sym (inv ∙ ⊎_elim (λ l. one (omega arith)) (λ l. ⊎_elim (λ m. two (omega arith) (omega arith)) (λ m. three (omega arith) (omega arith)) (le_or_lt b 0)) (le_or_lt a 0))
+      where
+        nil : (s : List ℕ) (z : ℕ) → z ≡ get_or s k 0 → z ≡ 0 → name_at s k ≡ []
+        nil s z e q = name_zero s k (sym e ∙ q)
 
-    module _ (x y : ℕ) (ex : x ≡ get_or s (a + k) 0) (ey : y ≡ get_or s (b + k) 0) where
-      pub names_differ : (x ≡ y → ⊥) → false ≡ all
-      unfolding same_list
-      names_differ n = sym (inv ∙ ⊎_elim (λ l. one (omega arith)) (λ l. ⊎_elim (λ m. two (omega arith) (omega arith)) (λ m. three (omega arith) (omega arith)) (le_or_lt y 0)) (le_or_lt x 0))
-        where
-          nil : (i z : ℕ) → z ≡ get_or s i 0 → z ≡ 0 → name_at s i ≡ []
-          nil i z e q = name_zero s i (sym e ∙ q)
+        cons : (s : List ℕ) (z : ℕ) → z ≡ get_or s k 0 → (z ≡ 0 → ⊥) → name_at s k ≡ z ∷ name_at s (k + 1)
+        cons s z e q = rw e (name_more s k (λ r. q (e ∙ r)))
 
-          cons : (i z : ℕ) → z ≡ get_or s i 0 → (z ≡ 0 → ⊥) → name_at s i ≡ z ∷ name_at s (i + 1)
-          cons i z e q = rw e (name_more s i (λ r. q (e ∙ r)))
+        one : a ≡ 0 → same_list (name_at x k) (name_at y k) ≡ false
+        one p = rw (nil x a ea p, cons y b eb (λ q. n (p ∙ sym q)))
 
-          one : x ≡ 0 → same_list (name_at s (a + k)) (name_at s (b + k)) ≡ false
-          one p = rw (nil (a + k) x ex p, cons (b + k) y ey (λ q. n (p ∙ sym q)))
+        two : (a ≡ 0 → ⊥) → b ≡ 0 → same_list (name_at x k) (name_at y k) ≡ false
+        two p q = rw (cons x a ea p, nil y b eb q)
 
-          two : (x ≡ 0 → ⊥) → y ≡ 0 → same_list (name_at s (a + k)) (name_at s (b + k)) ≡ false
-          two p q = rw (cons (a + k) x ex p, nil (b + k) y ey q)
+        three : (a ≡ 0 → ⊥) → (b ≡ 0 → ⊥) → same_list (name_at x k) (name_at y k) ≡ false
+        three p q = rw (cons x a ea p, cons y b eb q) (other_heads a b (name_at x (k + 1)) (name_at y (k + 1)) n)
 
-          three : (x ≡ 0 → ⊥) → (y ≡ 0 → ⊥) → same_list (name_at s (a + k)) (name_at s (b + k)) ≡ false
-          three p q = rw (cons (a + k) x ex p, cons (b + k) y ey q) (other_heads x y (name_at s (a + k + 1)) (name_at s (b + k + 1)) n)
+    pub names_both : a ≡ b → a ≡ 0 → true ≡ all
+    names_both e z = same_from _ _ (name_zero x k (sym ea ∙ z) ∙ sym (name_zero y k (sym eb ∙ sym e ∙ z))) ∙ sym inv
 
-      pub names_both : x ≡ y → x ≡ 0 → true ≡ all
-      names_both e z = same_from _ _ (name_zero s (a + k) (sym ex ∙ z) ∙ sym (name_zero s (b + k) (sym ey ∙ sym e ∙ z))) ∙ sym inv
-
-      pub names_turn : x ≡ y → (x ≡ 0 → ⊥) → all ≡ same_list (name_at s (a + (k + 1))) (name_at s (b + (k + 1)))
-      unfolding same_list
-      names_turn e n =
-          let p : a + k + 1 ≡ a + (k + 1) = omega arith in
-          let q : b + k + 1 ≡ b + (k + 1) = omega arith in
-          let f : get_or s (a + k) 0 ≡ get_or s (b + k) 0 = sym ex ∙ e ∙ ey in
-          inv
-          ∙ ap₂ same_list (name_more s (a + k) (λ r. n (ex ∙ r))) (name_more s (b + k) (λ r. n (e ∙ ey ∙ r)))
-          ∙ same_heads _ _ (name_at s (a + k + 1)) (name_at s (b + k + 1)) f
-          ∙ ap₂ (λ (i j : ℕ). same_list (name_at s i) (name_at s j)) p q
+    pub names_turn : a ≡ b → (a ≡ 0 → ⊥) → all ≡ same_list (name_at x (k + 1)) (name_at y (k + 1))
+    names_turn e n =
+        inv
+        ∙ ap₂ same_list (name_more x k (λ r. n (ea ∙ r))) (name_more y k (λ r. n (e ∙ eb ∙ r)))
+        ∙ same_heads _ _ (name_at x (k + 1)) (name_at y (k + 1)) (sym ea ∙ e ∙ eb)

@@ -1,11 +1,13 @@
 -- Suffixes of keys, and the base of a holder. Assumes nothing.
-use Prim.Native.Nat.{ℕ, zero, suc}
+use Prim.Native.Nat.{ℕ, zero, suc, ◌<◌, ◌≤◌}
 use mathlib.Core.Path.{◌≡◌, refl, ap, ◌∙◌, sym}
 use mathlib.Core.List.{List, [], ◌∷◌}
 use mathlib.Core.Bool.{Bool, true, false}
+use mathlib.Core.Logic.{⊎_elim}
+use Rattle.spec_bytes.proofs.words.Laws.{le_or_lt}
 use native.Mathlib.Omega.{arith}
-use lib.Dec.{eqb}
-use borrow.Author.Tests.{lt-leb}
+use lib.Dec.{leb, eqb}
+use borrow.Author.Tests.{le-leb, lt-leb}
 use Rattle.std.proofs.Common.{Option, None, Some}
 use Rattle.spec_type_table.specs.Names.{name_at}
 use Rattle.btf_open_names.specs.declared.keys.keys.Key.{Key}
@@ -13,7 +15,9 @@ use Rattle.btf_open_names.specs.keys.Keys.{space_number, key_list, loaded}
 use Rattle.btf_open_names.specs.name_classes.Classes.{key_of}
 use Rattle.btf_open_names.specs.filled_work.Takers.{suffix_on, after_underscores, base_from}
 use Rattle.btf_open_names.specs.suffixes.Found.{from_two}
-use Rattle.btf_open_names.specs.suffixes.Based.{based}
+use Rattle.btf_open_names.specs.suffixes.Based.{base_with, based}
+use Rattle.btf_open_names.specs.declared.suffixes.bases.Base.{Base}
+use Rattle.btf_open_causes.proofs.references.First.{or_else, first_from}
 use Rattle.btf_open_names.proofs.keys.Spaces.{spaced, numbers_other}
 use Rattle.btf_open_names.proofs.filled_work.Holders.{keys_apart, keys_some}
 use Rattle.btf_open_names.proofs.suffixes.Found.{two_zero}
@@ -36,6 +40,27 @@ module _ (s : List ℕ) (o : Option Key) (y : Key) where
         ∙ ap from_two (keys_some s (space_number x.space) x.name (space_number y.space) y.name _ (ap space_number q) (spaced x.space) refl)
         ∙ whole (Some x) e
 
+-- ---- a holder as a base
+module _ (c m : ℕ) where
+  pub with_none : m < 2 → None ≡ base_with c m
+  unfolding base_with
+  with_none l = sym (ap (λ (t : Bool). elim t as (λ z. Option Base) [ true ↦ Some (record { holder = c; number = m }) | false ↦ None ]) (lt-leb 2 m l))
+
+  pub with_some : (v : ℕ) → v ≡ m → 2 ≤ v → Some (record { holder = c; number = v }) ≡ base_with c m
+  unfolding base_with
+  with_some v e l =
+      ap (λ (x : ℕ). Some (record { holder = c; number = x })) e
+      ∙ sym (ap (λ (t : Bool). elim t as (λ z. Option Base) [ true ↦ Some (record { holder = c; number = m }) | false ↦ None ]) (le-leb 2 m (omega (arith, e))))
+
+  pub with_not : None ≡ base_with c m → m < 2
+  with_not e = ⊎_elim (λ l. let q : None ≡ Some (record { holder = c; number = m }) = e ∙ sym (with_some m refl l) in absurd (cc)) (λ l. l) (le_or_lt 2 m)
+
+  pub with_is : (o : Base) → Some o ≡ base_with c m → (o ≡ record { holder = c; number = m }) × (2 ≤ m)
+  with_is o e = ⊎_elim
+      (λ l. let q : Some o ≡ Some (record { holder = c; number = m }) = e ∙ sym (with_some m refl l) in let f : o ≡ record { holder = c; number = m } = cc in (f, l))
+      (λ l. let q : Some o ≡ None = e ∙ sym (with_none l) in absurd (cc))
+      (le_or_lt 2 m)
+
 -- ---- the base
 module _ (key : ℕ → List ℕ) (h : ℕ) where
   pub based_none : (r : ℕ) → 0 ≡ r → None ≡ based key h r
@@ -46,6 +71,18 @@ module _ (key : ℕ → List ℕ) (h : ℕ) where
   unfolding based
   based_some zero m r n e f = absurd (n refl)
   based_some (suc c) m r n e f = ap (λ (x : ℕ). Some (record { holder = suc c; number = x })) f ∙ ap (based key h) e
+
+  -- the first holder from c on that is one
+  pub based_first : (f c : ℕ) → (c ≡ 0 → ⊥) → first_from (λ (j : ℕ). base_with j (suffix_on (key j) (key h))) c f ≡ based key h (base_from key h f c)
+  unfolding based base_from base_with
+  based_first zero c n = refl
+  based_first (suc f) c n = go (leb 2 (suffix_on (key c) (key h))) (based_first f (suc c) (λ q. omega (arith, q)))
+    where
+      go : (t : Bool) → first_from (λ (j : ℕ). base_with j (suffix_on (key j) (key h))) (suc c) f ≡ based key h (base_from key h f (suc c))
+          → or_else (elim t as (λ z. Option Base) [ true ↦ Some (record { holder = c; number = suffix_on (key c) (key h) }) | false ↦ None ]) (first_from (λ (j : ℕ). base_with j (suffix_on (key j) (key h))) (suc c) f)
+          ≡ based key h (elim t as (λ z. ℕ) [ true ↦ c | false ↦ base_from key h f (suc c) ])
+      go true i = based_some c (suffix_on (key c) (key h)) c n refl refl
+      go false i = i
 
   -- without a space there is none
   nothing_from : ((c : ℕ) → suffix_on (key c) (key h) ≡ 0) → (f c : ℕ) → 0 ≡ base_from key h f c

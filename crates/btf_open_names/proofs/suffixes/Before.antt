@@ -5,44 +5,84 @@ use mathlib.Core.List.{List, [], ◌∷◌}
 use mathlib.Core.Bool.{Bool, true, false}
 use mathlib.Core.Logic.{⊎_elim}
 use native.Mathlib.Omega.{arith}
-use lib.ListN.{length, get_or}
+use native.Mathlib.Nat.{add-zero}
+use lib.ListN.{length, get_or, take, drop}
 use lib.Dec.{leb, eqb}
 use borrow.Author.Tests.{le-leb, lt-leb, eqb-true}
 use Rattle.spec_bytes.proofs.words.Laws.{le_or_lt}
-use Rattle.spec_type_table.specs.Names.{name_at}
+use Rattle.spec_type_table.specs.Names.{up_to_zero, name_at}
 use Rattle.btf_open_names.specs.name_classes.Table.{step_of, hash_from}
 use Rattle.btf_open_names.proofs.name_classes.Names.{name_end, name_zero, name_more}
-use Rattle.btf_open_names.specs.filled_work.Takers.{digit_after, numeral_from, after_underscores, suffix_in, suffix_on}
+use Rattle.btf_open_names.specs.filled_work.Takers.{digit_after, numeral_from, after_underscores, suffix_in, suffix_on, any_suffix}
 use Rattle.btf_open_names.proofs.filled_work.Bytes.{digit_high}
-use Rattle.btf_open_names.specs.suffixes.Before.{hash_before}
+use Rattle.btf_open_names.specs.suffixes.Before.{base_len, hash_before}
 
--- ---- hash_before, turn by turn
-module _ (s : List ℕ) (r acc k : ℕ) (inv : r ≡ hash_before acc (name_at s k)) where
-  pub before_end : length s ≤ k → acc ≡ r
-  unfolding hash_before
-  before_end l = sym (inv ∙ ap (hash_before acc) (name_end s k l))
+-- ---- base_len, turn by turn
+module _ (s : List ℕ) (r k : ℕ) (inv : r ≡ k + base_len (name_at s k)) where
+  pub base_end : length s ≤ k → k ≡ r
+  unfolding base_len
+  base_end l = sym (inv ∙ ap (λ (n : List ℕ). k + base_len n) (name_end s k l) ∙ add-zero k)
 
-  pub before_zero : get_or s k 0 ≡ 0 → acc ≡ r
-  unfolding hash_before
-  before_zero e = sym (inv ∙ ap (hash_before acc) (name_zero s k e))
+  pub base_zero : get_or s k 0 ≡ 0 → k ≡ r
+  unfolding base_len
+  base_zero e = sym (inv ∙ ap (λ (n : List ℕ). k + base_len n) (name_zero s k e) ∙ add-zero k)
 
   module _ (n : get_or s k 0 ≡ 0 → ⊥) (m : ℕ) (e : m ≡ suffix_in (name_at s k)) where
-    before_more : r ≡ elim (leb 2 m) as (λ z. ℕ) [ true ↦ acc | false ↦ hash_before (step_of acc (get_or s k 0)) (name_at s (k + 1)) ]
-    unfolding hash_before
-    before_more =
+    here : ℕ → ℕ
+    here j = k + elim (leb 2 j) as (λ z. ℕ) [ true ↦ 0 | false ↦ suc (base_len (name_at s (k + 1))) ]
+
+    base_more : r ≡ here m
+    unfolding base_len here
+    base_more =
         inv
-        ∙ ap (hash_before acc) (name_more s k n)
-        ∙ ap (λ (l : List ℕ). elim (leb 2 (suffix_in l)) as (λ z. ℕ) [ true ↦ acc | false ↦ hash_before (step_of acc (get_or s k 0)) (name_at s (k + 1)) ]) (sym (name_more s k n))
-        ∙ ap (λ (x : ℕ). elim (leb 2 x) as (λ z. ℕ) [ true ↦ acc | false ↦ hash_before (step_of acc (get_or s k 0)) (name_at s (k + 1)) ]) (sym e)
+        ∙ ap (λ (l : List ℕ). k + base_len l) (name_more s k n)
+        ∙ ap (λ (l : List ℕ). here (suffix_in l)) (sym (name_more s k n))
+        ∙ ap here (sym e)
 
-    pub before_found : 2 ≤ m → acc ≡ r
-    before_found h = sym (before_more ∙ ap (λ (t : Bool). elim t as (λ z. ℕ) [ true ↦ acc | false ↦ hash_before (step_of acc (get_or s k 0)) (name_at s (k + 1)) ]) (le-leb 2 m h))
+    pub base_found : 2 ≤ m → k ≡ r
+    unfolding here
+    base_found h = sym (base_more ∙ ap (λ (t : Bool). k + elim t as (λ z. ℕ) [ true ↦ 0 | false ↦ suc (base_len (name_at s (k + 1))) ]) (le-leb 2 m h) ∙ add-zero k)
 
-    pub before_turn : (next : ℕ) → m < 2 → next ≡ step_of acc (get_or s k 0) → r ≡ hash_before next (name_at s (k + 1))
-    before_turn next h q =
-        before_more
-        ∙ ap (λ (t : Bool). elim t as (λ z. ℕ) [ true ↦ acc | false ↦ hash_before (step_of acc (get_or s k 0)) (name_at s (k + 1)) ]) (lt-leb 2 m h)
-        ∙ ap (λ (a : ℕ). hash_before a (name_at s (k + 1))) (sym q)
+    pub base_turn : m < 2 → r ≡ k + 1 + base_len (name_at s (k + 1))
+    unfolding here
+    base_turn h =
+        let q : r ≡ k + suc (base_len (name_at s (k + 1))) = base_more ∙ ap (λ (t : Bool). k + elim t as (λ z. ℕ) [ true ↦ 0 | false ↦ suc (base_len (name_at s (k + 1))) ]) (lt-leb 2 m h) in
+        omega (arith, q)
+
+-- ---- what stands before the suffix, and from it on
+pub base_inside : (s : List ℕ) → base_len (up_to_zero s) ≤ length s
+unfolding base_len up_to_zero
+base_inside [] = omega arith
+base_inside (zero ∷ s) = omega arith
+base_inside (suc x ∷ s) = go (leb 2 (suffix_in (suc x ∷ up_to_zero s))) (base_inside s)
+  where
+    go : (t : Bool) → base_len (up_to_zero s) ≤ length s → elim t as (λ z. ℕ) [ true ↦ 0 | false ↦ suc (base_len (up_to_zero s)) ] ≤ suc (length s)
+    go true h = omega arith
+    go false h = omega arith
+
+pub before_by : (acc : ℕ) (s : List ℕ) → hash_from acc (up_to_zero (take (base_len (up_to_zero s)) s)) ≡ hash_before acc (up_to_zero s)
+unfolding base_len up_to_zero hash_from hash_before
+before_by acc [] = refl
+before_by acc (zero ∷ s) = refl
+before_by acc (suc x ∷ s) = go (leb 2 (suffix_in (suc x ∷ up_to_zero s))) (before_by (step_of acc (suc x)) s)
+  where
+    go : (t : Bool) → hash_from (step_of acc (suc x)) (up_to_zero (take (base_len (up_to_zero s)) s)) ≡ hash_before (step_of acc (suc x)) (up_to_zero s)
+        → hash_from acc (up_to_zero (take (elim t as (λ z. ℕ) [ true ↦ 0 | false ↦ suc (base_len (up_to_zero s)) ]) (suc x ∷ s)))
+        ≡ elim t as (λ z. ℕ) [ true ↦ acc | false ↦ hash_before (step_of acc (suc x)) (up_to_zero s) ]
+    go true h = refl
+    go false h = h
+
+pub any_by : (s : List ℕ) → leb 2 (suffix_in (name_at s (base_len (up_to_zero s)))) ≡ any_suffix (up_to_zero s)
+unfolding name_at base_len up_to_zero any_suffix after_underscores
+any_by [] = refl
+any_by (zero ∷ s) = refl
+any_by (suc x ∷ s) = go (leb 2 (suffix_in (suc x ∷ up_to_zero s))) refl (any_by s)
+  where
+    go : (t : Bool) → leb 2 (suffix_in (suc x ∷ up_to_zero s)) ≡ t → leb 2 (suffix_in (up_to_zero (drop (base_len (up_to_zero s)) s))) ≡ any_suffix (up_to_zero s)
+        → leb 2 (suffix_in (up_to_zero (drop (elim t as (λ z. ℕ) [ true ↦ 0 | false ↦ suc (base_len (up_to_zero s)) ]) (suc x ∷ s))))
+        ≡ elim t as (λ z. Bool) [ true ↦ true | false ↦ any_suffix (up_to_zero s) ]
+    go true e h = e
+    go false e h = h
 
 -- ---- one place only
 abbrev when : Bool → ℕ → ℕ

@@ -4,6 +4,7 @@ use mathlib.Core.Path.{◌≡◌, refl, ap, ◌∙◌, sym}
 use mathlib.Core.Bool.{Bool, true, false}
 use mathlib.Core.Logic.{⊎_elim}
 use native.Mathlib.Omega.{arith}
+use lib.Dec.{leb}
 use borrow.Author.Tests.{le-leb, lt-leb}
 use Rattle.std.proofs.Common.{Option, None, Some, is_some}
 use Rattle.spec_bytes.proofs.words.Laws.{le_or_lt}
@@ -53,3 +54,11 @@ module _ (n : ℕ) (o : Option ℕ) (e : o ≡ from_two n) (b : Bool) (t : b ≡
 
   pub not_found : b ≡ false → n < 2
   not_found z = ⊎_elim (λ l. let q : is_some o ≡ true = ap is_some (e ∙ sym (two_some n l)) in absurd (cc)) (λ l. l) (le_or_lt 2 n)
+
+pub found_by : (n : ℕ) → is_some (from_two n) ≡ leb 2 n
+unfolding from_two
+found_by n = go (leb 2 n)
+  where
+    go : (t : Bool) → is_some (elim t as (λ z. Option ℕ) [ true ↦ Some n | false ↦ None ]) ≡ t
+    go true = refl
+    go false = refl

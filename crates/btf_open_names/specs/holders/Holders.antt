@@ -1,6 +1,6 @@
 -- All holders of names.
-use Rattle.std.specs.Prelude.{ℕ, zero, suc, ◌+◌, ◌-◌, ◌*◌, ◌/◌, List, true, false, length, ltb, Option, None, Some}
-use Rattle.spec_bytes.specs.words.Words.{put_word}
+use Rattle.std.specs.Prelude.{ℕ, ◌+◌, ◌-◌, ◌*◌, ◌/◌, List, true, false, length, ltb, Option, None, Some}
+use Rattle.spec_bytes.specs.words.Words.{get_word, put_word}
 
 -- how many there are, if they can be numbered and the work has the words of each
 unfoldable pub holders_in : ℕ → ℕ → List ℕ → Option ℕ
@@ -10,7 +10,6 @@ holders_in types e w =
       | false ↦ elim (ltb (length w / 4) (types * 16 + e * 8)) [ true ↦ None | false ↦ Some (types + e) ]
     ]
 
--- the words at 0, at 1, .., at (n - 1) and to 0, .., to (n - 1) set to 0, holder by holder
-unfoldable pub pair_cleared : (at to : ℕ → ℕ) → List ℕ → ℕ → List ℕ
-pair_cleared at to w zero = w
-pair_cleared at to w (suc n) = put_word (put_word (pair_cleared at to w n) (to n) 0) (at n) 0
+-- v put at the word `first` of a list, and what stood there at the word `next`
+abbrev pub linked : ℕ → ℕ → ℕ → List ℕ → List ℕ
+linked first next v w = put_word (put_word w next (get_word w first)) first v

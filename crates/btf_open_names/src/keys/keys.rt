@@ -1,6 +1,6 @@
 // The key of a holder: the space of its name, and where that stands. Holder h is type h below the number of types, and after
 // those an enumerator.
-ghost use Rattle.std.specs.Prelude.{◌≡◌};
+ghost use Rattle.std.specs.Prelude.{◌≡◌, drop};
 ghost use Rattle.spec_type_table.specs.Records.{kind_of};
 ghost use Rattle.btf_open_names.specs.name_classes.Same.{same_list};
 ghost use Rattle.btf_open_names.specs.name_classes.Classes.{space_of, space_at, name_of, key_in};
@@ -19,11 +19,11 @@ pub enum Space {
     Identifier,
 }
 
-impl Space {
-    pub(crate) fn number(self) -> u32
-        ensures { result ≡ space_number self }
+impl From<Space> for u32 {
+    fn from(value: Space) -> u32
+        ensures { result ≡ space_number value }
     {
-        match self {
+        match value {
             Space::Tag => 0,
             Space::Identifier => 1,
         }
@@ -81,12 +81,23 @@ pub fn load_key(b: &Table, work: &[u8], h: u32) -> Option<Key>
 }
 
 impl Key {
+    // The section from the name on.
+    pub fn from_name(self, section: &[u8]) -> &[u8]
+        ensures { result.now ≡ drop self.name section.now }
+    {
+        section.get(self.name..).unwrap_or(&[])
+    }
+
     // Whether a holder's key has the same space and the same name.
     pub fn is_same(self, section: &[u8], x: Option<Key>) -> bool
         ensures { result ≡ same_list (loaded section.now x) (key_list section.now self) }
     {
         match x {
-            Some(x) => x.space == self.space && same_name(section, x.name, self.name),
+            Some(x) => {
+                x.space == self.space
+                    && (x.name == self.name
+                        || same_name(x.from_name(section), self.from_name(section)))
+            }
             None => false,
         }
     }
@@ -94,6 +105,6 @@ impl Key {
     pub fn hash(self, section: &[u8]) -> u32
         ensures { result ≡ hash_key (key_list section.now self) }
     {
-        hash_name(section, self.name, self.space.number())
+        hash_name(self.from_name(section), u32::from(self.space))
     }
 }

@@ -4,7 +4,7 @@ ghost use Rattle.btf_open_names.specs.name_classes.Classes.{key_in};
 ghost use Rattle.btf_open_names.specs.filled_work.Takers.{suffix_on, base_from};
 ghost use Rattle.btf_open_names.specs.keys.Keys.{key_list, loaded};
 ghost use Rattle.btf_open_names.specs.suffixes.Found.{from_two};
-ghost use Rattle.btf_open_names.specs.suffixes.Based.{based};
+ghost use Rattle.btf_open_names.specs.suffixes.Based.{base_with, based};
 
 use crate::keys::{Key, load_key};
 use crate::suffixes::suffix::suffix_on;
@@ -18,14 +18,23 @@ pub struct Base {
 }
 
 // The number with which the key y is x with a suffix.
-pub fn key_suffix(section: &[u8], x: Option<Key>, y: Key) -> Option<u32>
+fn key_suffix(section: &[u8], x: Option<Key>, y: Key) -> Option<u32>
     ensures { result ≡ from_two (suffix_on (loaded section.now x) (key_list section.now y)) }
 {
     let x = x?;
     if x.space != y.space {
         return None;
     }
-    suffix_on(section, x.name, y.name)
+    suffix_on(x.from_name(section), y.from_name(section))
+}
+
+// Holder c as the base of a key.
+pub fn base_at(b: &Table, work: &[u8], c: u32, key: Key) -> Option<Base>
+    ensures { result
+        ≡ base_with c (suffix_on (key_in b.now.head b.now.section.now work.now c) (key_list b.now.section.now key)) }
+{
+    let number = key_suffix(b.section, load_key(b, work, c), key)?;
+    Some(Base { holder: c, number })
 }
 
 // The base of h: the first holder below n whose name, with a suffix, is that of h.
@@ -35,11 +44,5 @@ pub fn base_of(b: &Table, work: &[u8], n: u32, h: u32) -> Option<Base>
         (base_from (key_in b.now.head b.now.section.now work.now) h (n - 1) 1) }
 {
     let key = load_key(b, work, h)?;
-    for c in 1..n {
-        let number = key_suffix(b.section, load_key(b, work, c), key);
-        if let Some(number) = number {
-            return Some(Base { holder: c, number });
-        }
-    }
-    None
+    (1..n).find_map(|c| base_at(b, work, c, key))
 }

@@ -1,14 +1,17 @@
-// Names that end in three underscores and a number.
-ghost use Rattle.std.specs.Prelude.{ℕ, ◌≡◌, ◌+◌, ◌<◌, get_or, unwrap_or, Decides};
-ghost use Rattle.spec_type_table.specs.Names.{name_at};
+// Names that end in three underscores and a number. A name is given by the bytes from it on: it ends before the first 0.
+ghost use Rattle.std.specs.Prelude.{◌≡◌, unwrap_or};
+ghost use Rattle.spec_type_table.specs.Names.{up_to_zero};
 ghost use Rattle.btf_open_names.specs.filled_work.Takers.{digit_after, numeral, suffix_in, suffix_on, any_suffix};
-ghost use Rattle.btf_open_names.specs.suffixes.Before.{hash_before};
+ghost use Rattle.btf_open_names.specs.suffixes.Before.{base_len, hash_before};
 ghost use Rattle.btf_open_names.specs.suffixes.Found.{unless_zero, from_two};
 
-use crate::keys::{byte_at, hash_step};
+use crate::keys::hash_name;
+use base_bytes::element::peek;
 
 // A name's holders are numbered from 1 on, and the first prints it bare.
 const FIRST_SUFFIX: u32 = 2;
+
+const UNDERSCORES: &[u8] = &[b'_'; 3];
 
 // The number so far with one more digit. It begins with no zero, and has 32 bits.
 fn digit_after(acc: u32, x: u8) -> Option<u32>
@@ -24,85 +27,68 @@ fn digit_after(acc: u32, x: u8) -> Option<u32>
     Some(v)
 }
 
-// The number in decimal from a place to the end of the name there.
-fn numeral_at(section: &[u8], at: usize) -> Option<u32>
-    ensures { unwrap_or result 0 ≡ numeral (name_at section.now at) }
+// The number that a name is in decimal. (A `for` with `?`: std has no lemma of `try_fold`.)
+fn numeral(name: &[u8]) -> Option<u32>
+    ensures { unwrap_or result 0 ≡ numeral (up_to_zero name.now) }
 {
     let mut acc: u32 = 0;
-    for k in at..section.len() {
-        let x = section[k];
-        if x == 0 {
+    for x in name {
+        if *x == 0 {
             return Some(acc);
         }
-        acc = digit_after(acc, x)?;
+        acc = digit_after(acc, *x)?;
     }
     Some(acc)
 }
 
-// Whether three underscores stand at a place.
-fn is_underscored(section: &[u8], at: usize) -> bool
-    ensures { Decides result ((k : ℕ) → k < 3 → get_or section.now (at + k) 0 ≡ 95) }
+// The number of a name that is three underscores and a number.
+fn suffix_in(name: &[u8]) -> Option<u32>
+    ensures { result ≡ from_two (suffix_in (up_to_zero name.now)) }
 {
-    (0..3).all(|k| byte_at(section, at, k) == b'_')
-}
-
-// The number after three underscores at a place, to the end of the name there.
-fn suffix_at(section: &[u8], at: usize) -> Option<u32>
-    ensures { result ≡ from_two (suffix_in (name_at section.now at)) }
-{
-    if !is_underscored(section, at) {
-        return None;
-    }
-    let n = numeral_at(section, at + 3)?;
+    let digits = name.strip_prefix(UNDERSCORES)?;
+    let n = numeral(digits)?;
     if n < FIRST_SUFFIX {
         return None;
     }
     Some(n)
 }
 
-// Whether the name at a place ends so.
-pub fn has_suffix(section: &[u8], at: usize) -> bool
-    ensures { result ≡ any_suffix (name_at section.now at) }
+// How many bytes of a name stand before its suffix; all of them where it has none.
+fn base_len(name: &[u8]) -> usize
+    ensures { result ≡ base_len (up_to_zero name.now) }
 {
-    for k in at..section.len() {
-        if section[k] == 0 {
-            return false;
-        }
-        if suffix_at(section, k).is_some() {
-            return true;
+    for (k, x) in name.iter().enumerate() {
+        if *x == 0 || suffix_in(&name[k..]).is_some() {
+            return k;
         }
     }
-    false
+    name.len()
 }
 
-// The hash of what stands before the suffix of the name at a place, after `start`; of the whole name where it has none.
-pub fn hash_before(section: &[u8], off: usize, start: u32) -> u32
-    ensures { result ≡ hash_before start (name_at section.now off) }
+// Whether a name has a suffix.
+pub fn has_suffix(name: &[u8]) -> bool
+    ensures { result ≡ any_suffix (up_to_zero name.now) }
 {
-    let mut acc = start;
-    for k in off..section.len() {
-        let x = section[k];
-        if x == 0 {
-            return acc;
-        }
-        if suffix_at(section, k).is_some() {
-            return acc;
-        }
-        acc = hash_step(acc, x);
-    }
-    acc
+    suffix_in(&name[base_len(name)..]).is_some()
 }
 
-// The number with which the name at b is the name at a, three underscores and a number.
-pub fn suffix_on(section: &[u8], a: usize, b: usize) -> Option<u32>
-    ensures { result ≡ from_two (suffix_on (name_at section.now a) (name_at section.now b)) }
+// The hash of what stands before the suffix of a name, after `start`.
+pub fn hash_before(name: &[u8], start: u32) -> u32
+    ensures { result ≡ hash_before start (up_to_zero name.now) }
 {
-    for k in 0..section.len().saturating_sub(b) {
-        let x = byte_at(section, a, k);
-        if x == 0 {
-            return suffix_at(section, b + k);
+    hash_name(&name[..base_len(name)], start)
+}
+
+// The number with which the name y is the name x, three underscores and a number.
+pub fn suffix_on(x: &[u8], y: &[u8]) -> Option<u32>
+    ensures { result ≡ from_two (suffix_on (up_to_zero x.now) (up_to_zero y.now)) }
+{
+    for (k, b) in y.iter().enumerate() {
+        let a = peek(x, k, 0);
+        if a == 0 {
+            return suffix_in(&y[k..]);
         }
-        if x != section[b + k] {
+        if a != *b {
             return None;
         }
     }

@@ -6,7 +6,7 @@ ghost use Rattle.btf_open_names.specs.hash_table.Hashed.{Table as IsFilled, Tabl
 ghost use Rattle.btf_open_names.specs.suffixes.Based.{based};
 
 use crate::keys::load_key;
-use crate::suffixes::{Base, base_of, hash_before, key_suffix};
+use crate::suffixes::{Base, base_at, base_of, hash_before};
 use btf_type_table::cell;
 use btf_type_table::table::Table;
 
@@ -18,13 +18,12 @@ fn base_in(b: &Table, work: &[u8], n: u32, h: u32) -> Option<Base>
         (base_from (key_in b.now.head b.now.section.now work.now) h (n - 1) 1) }
 {
     let key = load_key(b, work, h)?;
-    let i = hash_before(b.section, key.name, key.space.number()) % n;
+    let i = hash_before(key.from_name(b.section), u32::from(key.space)) % n;
     let mut c = cell::TABLE_BUCKET.get(work, b.head.types, i);
-    // A `while`: a list in the lent work goes by its links.
+    // A `while`: a list in the lent work goes by its links. (std takes `successors` to be endless: a walk to its end is not proved.)
     while c != 0 {
-        let number = key_suffix(b.section, load_key(b, work, c), key);
-        if let Some(number) = number {
-            return Some(Base { holder: c, number });
+        if let Some(base) = base_at(b, work, c, key) {
+            return Some(base);
         }
         c = cell::TABLE_LINK.get(work, b.head.types, c);
     }

@@ -3,10 +3,10 @@ ghost use Rattle.std.specs.Prelude.{◌≡◌};
 ghost use Rattle.spec_c_calls.specs.Ceilings.{within_export_of, type_within_export, types_within_export, list_within_export};
 ghost use Rattle.spec_session.specs.calls.Lists.{ids_in};
 
+use crate::exported::request_on;
 use session_record::record_bytes::{answered, listed};
-use session_record::record_words::{RECORD_BYTES, decode, number_or_value};
+use session_record::record_words::{RECORD_BYTES, number_or_value};
 use session_requests::options::{Options, Wanted};
-use session_requests::requests::request;
 use spec_bytes::refusal::Refusal;
 
 #[unsafe(no_mangle)]
@@ -26,11 +26,11 @@ pub extern "C" fn btfdump_dump_type_within(
         *made = 0;
         return number_or_value(Err(Refusal::SessionClosed));
     }
+    let wanted = Wanted::One(id);
     let o = Options::Within(ceiling);
-    let s = decode(record);
-    let d = request(s, section, work, text, &mut [0u8; 0], Wanted::One(id), o);
+    let d = request_on(record, section, work, text, &mut [0u8; 0], wanted, o);
     *made = d.made;
-    answered(record, d.turn)
+    answered(record, d.of)
 }
 
 #[unsafe(no_mangle)]
@@ -49,11 +49,11 @@ pub extern "C" fn btfdump_dump_types_within(
         *made = 0;
         return number_or_value(Err(Refusal::SessionClosed));
     }
+    let wanted = Wanted::All;
     let o = Options::Within(ceiling);
-    let s = decode(record);
-    let d = request(s, section, work, text, &mut [0u8; 0], Wanted::All, o);
+    let d = request_on(record, section, work, text, &mut [0u8; 0], wanted, o);
     *made = d.made;
-    answered(record, d.turn)
+    answered(record, d.of)
 }
 
 #[unsafe(no_mangle)]
@@ -78,9 +78,9 @@ pub extern "C" fn btfdump_dump_list_within(
         *made = 0;
         return number_or_value(Err(Refusal::SessionClosed));
     }
+    let wanted = Wanted::Ids(ids);
     let o = Options::Within(ceiling);
-    let s = decode(record);
-    let d = request(s, section, work, text, &mut [0u8; 0], Wanted::Ids(ids), o);
+    let d = request_on(record, section, work, text, &mut [0u8; 0], wanted, o);
     *made = d.made;
-    listed(record, d.turn)
+    listed(record, d.of)
 }

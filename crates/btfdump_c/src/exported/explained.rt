@@ -3,10 +3,10 @@ ghost use Rattle.std.specs.Prelude.{◌≡◌};
 ghost use Rattle.spec_c_calls.specs.Causes.{causes_export_of, type_causes_export, types_causes_export, list_causes_export};
 ghost use Rattle.spec_session.specs.calls.Lists.{ids_in};
 
+use crate::exported::request_on;
 use session_record::record_bytes::{answered, listed};
-use session_record::record_words::{RECORD_BYTES, decode, number_or_value};
+use session_record::record_words::{RECORD_BYTES, number_or_value};
 use session_requests::options::{Options, Wanted};
-use session_requests::requests::request;
 use spec_bytes::refusal::Refusal;
 
 #[unsafe(no_mangle)]
@@ -26,11 +26,11 @@ pub extern "C" fn btfdump_dump_type_causes(
         *count = 0;
         return number_or_value(Err(Refusal::SessionClosed));
     }
-    let s = decode(record);
+    let wanted = Wanted::One(id);
     let o = Options::Listed;
-    let d = request(s, section, work, text, list, Wanted::One(id), o);
+    let d = request_on(record, section, work, text, list, wanted, o);
     *count = d.count as u64;
-    answered(record, d.turn)
+    answered(record, d.of)
 }
 
 #[unsafe(no_mangle)]
@@ -49,11 +49,11 @@ pub extern "C" fn btfdump_dump_types_causes(
         *count = 0;
         return number_or_value(Err(Refusal::SessionClosed));
     }
-    let s = decode(record);
+    let wanted = Wanted::All;
     let o = Options::Listed;
-    let d = request(s, section, work, text, list, Wanted::All, o);
+    let d = request_on(record, section, work, text, list, wanted, o);
     *count = d.count as u64;
-    answered(record, d.turn)
+    answered(record, d.of)
 }
 
 #[unsafe(no_mangle)]
@@ -78,9 +78,9 @@ pub extern "C" fn btfdump_dump_list_causes(
         *count = 0;
         return number_or_value(Err(Refusal::SessionClosed));
     }
-    let s = decode(record);
+    let wanted = Wanted::Ids(ids);
     let o = Options::Listed;
-    let d = request(s, section, work, text, list, Wanted::Ids(ids), o);
+    let d = request_on(record, section, work, text, list, wanted, o);
     *count = d.count as u64;
-    listed(record, d.turn)
+    listed(record, d.of)
 }

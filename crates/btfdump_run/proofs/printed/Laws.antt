@@ -1,6 +1,7 @@
 -- A law for each return of src/lib.rt. Assumes nothing.
 use Prim.Native.Nat.{ℕ, ◌+◌, ◌<◌, ◌≤◌}
 use mathlib.Core.Path.{◌≡◌, refl, ap, ◌∙◌, sym}
+use mathlib.Core.Bool.{false}
 use mathlib.Core.List.{List, ◌++◌}
 use mathlib.Core.Logic.{⊎_elim}
 use native.Mathlib.Omega.{arith}
@@ -85,6 +86,20 @@ module _ (turn : Turn) (w t : List ℕ) (c : Call) (e : call_of turn.session (an
   pub shows_text : (len : ℕ) → turn.answer ≡ Ok len → ran_to (Some len) t w ≡ ran_all c
   unfolding ran_to ran_all shown call_of
   shows_text len a = (λ i. record { out = shown (answer_is (sym a i)) t; work = w }) ∙ ap ran_all e
+
+-- a session by default, field by field
+pub default_is : (s : Session) → (s.«open» ≡ false) × ((s.section_len ≡ 0) × ((s.work_len ≡ 0) × ((s.types ≡ 0) × ((s.enumerators ≡ 0) × ((s.text_len ≡ 0) × ((s.pointer_size ≡ 0) × ((s.modes ≡ 0) × (s.visits ≡ 0)))))))) → s ≡ never_opened
+default_is s (o, (l, (w, (t, (e, (n, (p, (m, v)))))))) = λ i. record {
+  «open» = o i;
+  section_len = l i;
+  work_len = w i;
+  types = t i;
+  enumerators = e i;
+  text_len = n i;
+  pointer_size = p i;
+  modes = m i;
+  visits = v i;
+}
 
 -- opening
 module _ (section w t : List ℕ) (s : Session) (es : s ≡ never_opened) (turn : Turn) (w₁ t₁ : List ℕ) (e : call_of turn.session (answer_is turn.answer) w₁ t₁ ≡ open_call s section w t 8 0) where

@@ -11,7 +11,7 @@ use Rattle.spec_c_dumper.specs.rules.Writer.{Writer, put, given, ◌⨾◌}
 use Rattle.spec_c_dumper.specs.rules.Types.{Name, is_empty, Member, Enumerator, Btf as Rules}
 use Rattle.spec_c_dumper.specs.rules.Names.{tag_space, ident_space, Naming, resolve_type_name}
 use Rattle.spec_c_dumper.specs.rules.Layout.{end_of}
-use Rattle.spec_c_dumper.specs.rules.Decl.{keyword, sep_name, decl_tags, emit_decl_tags, last_newline, emit_enum_def, enum_word, composite_head, composite_end}
+use Rattle.spec_c_dumper.specs.rules.Decl.{keyword, sep_name, decl_tags, emit_decl_tags, last_newline, emit_enum_def, composite_head, composite_end}
 use Rattle.spec_c_dumper.specs.rules.Place.{Wrote, out_of, put_said}
 use Rattle.spec_c_dumper.proofs.rules.Writing.{put_only, stop_only, put_then, put_given, put_refused, said_past}
 use Rattle.spec_type_table.specs.declared.types.TypeTable.{TypeTable}
@@ -23,6 +23,8 @@ use Rattle.spec_bytes.specs.declared.refusal.Refusal.{Refusal}
 use Rattle.spec_bytes.specs.Refusals.{refusal_number}
 use Rattle.btf_layout.specs.size.Answers.{ask_of}
 use Rattle.c_dumper_bodies.specs.bodies.Pieces.{line_end, packed_text, size_text, member_tail, end_from, enum_text, no_decl}
+use Rattle.c_dumper_bodies.specs.enumerators.Heads.{enum_head}
+use Rattle.c_dumper_bodies.proofs.enumerators.Definitions.{enum_mention}
 use Rattle.c_dumper_bodies.proofs.bodies.WordLaws.{size_is, line_some}
 
 -- a text, then a writer
@@ -43,9 +45,9 @@ module _ (N : Naming (List ℕ)) (B : Rules) (str : ℕ → List ℕ) (id : ℕ)
   unfolding enum_text
   enum_inline h e = rw (h, enum_text) e
 
-  pub enum_named : is_empty name ≡ false → out_of r t' u' ≡ put_said t at (enum_word N B id name u) → out_of r t' u' ≡ put_said t at (enum_text N B str id name vs lvl u)
+  pub enum_named : is_empty name ≡ false → out_of r t' u' ≡ put_said t at (enum_head N id name u) → out_of r t' u' ≡ put_said t at (enum_text N B str id name vs lvl u)
   unfolding enum_text
-  enum_named h e = rw (h, enum_text) e
+  enum_named h e = rw (h, enum_text) (e ∙ ap (put_said t at) (enum_mention N id name u h B))
 
 -- ---- a composite's head
 module _ (b : TypeTable) (s : List ℕ) (id : ℕ) (is_struct : Bool) (name a : Name) (t : List ℕ) (at : Placed) (w w' : List ℕ) where

@@ -2,12 +2,13 @@
 use Prim.Native.Nat.{ℕ, zero, suc, ◌+◌, ◌-◌, ◌<◌, ◌≤◌}
 use mathlib.Core.Path.{◌≡◌, refl, ap, ap₂, ◌∙◌, sym}
 use Rattle.std.specs.Prelude.{Some, None}
+use Rattle.std.specs.List.{fold, range_with_len}
 use mathlib.Core.List.{List, [], ◌∷◌, ◌++◌}
 use mathlib.Core.Bool.{Bool, true, false, not}
 use native.Mathlib.Omega.{arith}
 use native.Mathlib.Numerals.{add-one}
 use lib.ListN.{length}
-use borrow.Author.Tests.{lt-ltb, le-ltb}
+use borrow.Author.Tests.{lt-ltb, le-ltb, not-true, not-false}
 use Rattle.spec_bytes.specs.text.Text.{ascii, whole, join}
 use Rattle.spec_bytes.specs.text.Placed.{Placed, put_out, put_text}
 use Rattle.spec_bytes.proofs.text.TextLaws.{put_seq, put_same, put_empty, join_on}
@@ -20,25 +21,24 @@ use Rattle.spec_type_table.specs.Kinds.{kind_named}
 use Rattle.spec_type_table.specs.Records.{kind_of, record_by_id}
 use Rattle.spec_type_table.specs.Table.{type_of, btf_of}
 use Rattle.c_dumper_bodies.specs.chain.Chains.{is_link, is_qualifier, qualifier_of, next_of, entry_of, path_at, chain_at, chain_is, RecordIs, kind_at, skipped, mods_down}
-use Rattle.c_dumper_bodies.proofs.chain.Linked.{false_true, link_leads, link_ends, stays_on, no_words, entry_qual}
-
-not_true : (x : Bool) → not x ≡ true → x ≡ false
-not_true true e = absurd (false_true e)
-not_true false e = refl
-
-not_false : (x : Bool) → not x ≡ false → x ≡ true
-not_false true e = refl
-not_false false e = absurd (false_true (sym e))
+use Rattle.c_dumper_bodies.proofs.chain.Linked.{link_leads, link_ends, stays_on, no_words, entry_qual}
 
 module _ (b : TypeTable) (s w : List ℕ) (start : ℕ) where
   -- ---- path_at
-  pub path_none : start ≡ path_at b s w start 0
-  unfolding path_at
-  path_none = refl
-
-  pub path_more : (i id : ℕ) (t : Record) (x : ℕ) → id ≡ path_at b s w start i → t ≡ record_by_id b s w id → x ≡ next_of b s t → x ≡ path_at b s w start (i + 1)
+  path_more : (i id : ℕ) (t : Record) (x : ℕ) → id ≡ path_at b s w start i → t ≡ record_by_id b s w id → x ≡ next_of b s t → x ≡ path_at b s w start (i + 1)
   unfolding path_at
   path_more i id t x e et ex = rw add-one (ex ∙ ap (next_of b s) (et ∙ ap (record_by_id b s w) e))
+
+  path_on : (j n a : ℕ) → fold (λ id x. next_of b s (record_by_id b s w id)) (path_at b s w start j) (range_with_len a n) ≡ path_at b s w start (j + n)
+  path_on j zero a = ap (path_at b s w start) (omega arith)
+  path_on j (suc n) a =
+      ap (λ (id : ℕ). fold (λ id x. next_of b s (record_by_id b s w id)) id (range_with_len (a + 1) n)) (path_more j _ _ _ refl refl refl)
+      ∙ path_on (j + 1) n (a + 1)
+      ∙ ap (path_at b s w start) (omega arith)
+
+  pub path_walk : (k : ℕ) → fold (λ id x. next_of b s (record_by_id b s w id)) start (range_with_len 0 k) ≡ path_at b s w start k
+  unfolding path_at
+  path_walk k = path_on 0 k 0 ∙ ap (path_at b s w start) (omega arith)
 
   -- ---- kind_at
   pub kind_reads : (n id : ℕ) (t : Record) (k : Kind) → id ≡ path_at b s w start n → t ≡ record_by_id b s w id → k ≡ kind_named (kind_of t.info) → k ≡ kind_at b s w start n
@@ -97,17 +97,17 @@ module _ (b : TypeTable) (s w : List ℕ) (start : ℕ) where
           c,
           q ∙ path_next m id ei,
           ap₂ (λ (y : ℕ) (z : List Entry). chain_of f (btf_of b s w) y z) q (sym (chain_next m id ei))
-              ∙ sym (chain_leads f id (chain_at b s w start m) (leads_on id (is_kind ∙ not_false l hl)))
+              ∙ sym (chain_leads f id (chain_at b s w start m) (leads_on id (is_kind ∙ not-false l hl)))
               ∙ ec,
         )
 
     pub len_got : ChainLeft id n → n < 512 → not l ≡ true
-        → (chain_is b s w start (Some (record { id = id; t = t; n = n })) ≡ chain_of 512 (btf_of b s w) start []) × RecordIs b s w (Some (record { id = id; t = t; n = n }))
+        → (chain_is b s w start (Some (record { x = record { id = id; t = t }; n = n })) ≡ chain_of 512 (btf_of b s w) start []) × RecordIs b s w (Some (record { x = record { id = id; t = t }; n = n }))
     unfolding ChainLeft chain_is RecordIs
     len_got (m, zero, en, ef, ei, ec) h hl = absurd (omega arith)
     len_got (m, suc f, en, ef, ei, ec) h hl = (
       ap (λ (y : ℕ). got (base id ∷ chain_at b s w start y)) en
-          ∙ sym (chain_ends f id (chain_at b s w start m) (link_ends b s (record_by_id b s w id) (is_kind ∙ not_true l hl)))
+          ∙ sym (chain_ends f id (chain_at b s w start m) (link_ends b s (record_by_id b s w id) (is_kind ∙ not-true l hl)))
           ∙ ec,
       et,
     )
@@ -148,36 +148,16 @@ module _ (b : TypeTable) (s w : List ℕ) (start : ℕ) where
   unfolding chain_at kind_at mods
   words_go n h = ap (λ (x : Entry). mods (x ∷ chain_at b s w start n)) (entry_qual b s w (path_at b s w start n) _ refl h)
 
-  -- ---- skip_mods
-  module _ (n k : ℕ) (i : no_mods (chain_at b s w start k) ≡ no_mods (chain_at b s w start n)) where
-    pub skip_end : k ≡ 0 → 0 ≡ skipped b s w start n
-    unfolding skipped
-    skip_end z = sym (ap length (sym i ∙ ap (λ (x : ℕ). no_mods (chain_at b s w start x)) z ∙ mods_none) ∙ chain_length 0)
-
-    module _ (j : ℕ) (x : Kind) (q : Bool) (z : k ≡ suc j) (ex : x ≡ kind_at b s w start j) (eq : q ≡ is_qualifier x) where
-      kind_is : is_qualifier (kind_at b s w start j) ≡ q
-      kind_is = sym (eq ∙ ap is_qualifier ex)
-
-      from_here : no_mods (chain_at b s w start (suc j)) ≡ no_mods (chain_at b s w start n)
-      from_here = ap (λ (y : ℕ). no_mods (chain_at b s w start y)) (sym z) ∙ i
-
-      pub skip_stop : not q ≡ true → j + 1 ≡ skipped b s w start n
-      unfolding skipped
-      skip_stop f = rw add-one (sym (chain_length (suc j)) ∙ ap length (sym (mods_stay j (kind_is ∙ not_true q f)) ∙ from_here))
-
-      pub skip_turn : not q ≡ false → no_mods (chain_at b s w start j) ≡ no_mods (chain_at b s w start n)
-      skip_turn f = sym (mods_go j (kind_is ∙ not_false q f)) ∙ from_here
-
   -- ---- what skip_mods and emit_mods come to in the rules
-  skip_go : (n : ℕ) → is_qualifier (kind_at b s w start n) ≡ true → skipped b s w start (suc n) ≡ skipped b s w start n
+  pub skip_go : (n : ℕ) → is_qualifier (kind_at b s w start n) ≡ true → skipped b s w start (suc n) ≡ skipped b s w start n
   unfolding skipped
   skip_go n h = ap length (mods_go n h)
 
-  skip_stay : (n : ℕ) → is_qualifier (kind_at b s w start n) ≡ false → skipped b s w start (suc n) ≡ suc n
+  pub skip_stay : (n : ℕ) → is_qualifier (kind_at b s w start n) ≡ false → skipped b s w start (suc n) ≡ suc n
   unfolding skipped
   skip_stay n h = ap length (mods_stay n h) ∙ chain_length (suc n)
 
-  skip_zero : skipped b s w start 0 ≡ 0
+  pub skip_zero : skipped b s w start 0 ≡ 0
   unfolding skipped
   skip_zero = ap length mods_none ∙ chain_length 0
 

@@ -8,18 +8,19 @@ use Rattle.spec_bytes.specs.declared.refusal.Refusal.{Refusal}
 use Rattle.spec_bytes.specs.text.Text.{ascii, pfx, whole, join}
 use Rattle.spec_bytes.specs.text.Placed.{Placed, put_out, put_text}
 use Rattle.spec_bytes.proofs.text.TextLaws.{put_seq, put_ended}
-use Rattle.spec_c_dumper.specs.rules.Types.{Name, Enumerator, Btf as Rules}
+use Rattle.spec_c_dumper.specs.rules.Types.{Name, is_empty, Enumerator, Btf as Rules}
 use Rattle.spec_c_dumper.specs.rules.Writer.{Writer, after, next, put, nothing, ◌⨾◌}
 use Rattle.spec_c_dumper.specs.rules.Place.{out_of, put_said}
-use Rattle.spec_c_dumper.specs.rules.Names.{Naming, tag_space, resolve_type_name, builtin}
+use Rattle.spec_c_dumper.specs.rules.Names.{Naming, tag_space, spelled, resolving, resolve_type_name, builtin}
 use Rattle.spec_c_dumper.specs.rules.Decl.{deeper, sep_name, emit_values, enum_body, emit_enum_def, enum_word}
 use Rattle.spec_c_dumper.proofs.rules.Writing.{put_only, put_nothing, put_then, said_past, said_ended}
 use Rattle.spec_type_table.specs.declared.types.TypeTable.{TypeTable}
 use Rattle.spec_type_table.specs.Table.{from, work_naming}
 use Rattle.c_dumper_name_versions.proofs.names.Resolve.{put_type_name}
+use Rattle.c_dumper_name_versions.proofs.names.Spellings.{spelled_some, sep_more}
 use Rattle.c_dumper_bodies.specs.enumerators.Heads.{enum_head, enum_end}
 
--- ---- emit_enum_head, put_enum_name: the name was resolved, and two texts written
+-- ---- emit_enum_head: the name was resolved, and two texts written
 module _ (b : TypeTable) (id : ℕ) (name n w w' : List ℕ) (t : List ℕ) (at p : Placed) (t₁ : List ℕ) (r : Placed) (t₂ : List ℕ)
     (e : put n w' ≡ resolve_type_name (work_naming b) tag_space id name put w) where
   two : (a c : List ℕ) → put_out p t₁ ≡ put_text t at (whole a) → put_out r t₂ ≡ put_text t₁ p (whole c) → out_of r t₂ w' ≡ put_said t at ((put a ⨾ put c) w')
@@ -29,9 +30,22 @@ module _ (b : TypeTable) (id : ℕ) (name n w w' : List ℕ) (t : List ℕ) (at 
   unfolding enum_head
   head_put e₁ e₂ = put_type_name b tag_space tag_space id name n w w' (λ x. put (ascii "enum") ⨾ put (sep_name x)) t at r t₂ w' e (two _ _ e₁ e₂)
 
-  pub word_put : (B : Rules) → put_out p t₁ ≡ put_text t at (whole (ascii "enum ")) → put_out r t₂ ≡ put_text t₁ p (whole n) → out_of r t₂ w' ≡ put_said t at (enum_word (work_naming b) B id name w)
-  unfolding enum_word
-  word_put B e₁ e₂ = put_type_name b tag_space tag_space id name n w w' (λ x. put (ascii "enum ") ⨾ put x) t at r t₂ w' e (two _ _ e₁ e₂)
+-- a name that is there: the mention of an enum is the head of its definition
+named_text : (n u : List ℕ) → is_empty n ≡ false → (put (ascii "enum") ⨾ put (sep_name n)) u ≡ (put (ascii "enum ") ⨾ put n) u
+unfolding put ◌⨾◌ next after join
+named_text n u h = ap (λ (x : List ℕ). (put (ascii "enum") ⨾ put x) u) (sym (sep_more n h))
+
+module _ (N : Naming (List ℕ)) (id : ℕ) (name u : List ℕ) (h : is_empty name ≡ false) where
+  with_name : (k : Name → Writer (List ℕ)) → resolve_type_name N tag_space id name k u ≡ k (spelled name (N.type_version tag_space id name u).version) (N.type_version tag_space id name u).names
+  unfolding resolve_type_name resolving
+  with_name k = rw (h, resolve_type_name)
+
+  pub enum_mention : (B : Rules) → enum_head N id name u ≡ enum_word N B id name u
+  unfolding enum_head enum_word
+  enum_mention B =
+      with_name (λ n. put (ascii "enum") ⨾ put (sep_name n))
+      ∙ named_text (spelled name (N.type_version tag_space id name u).version) _ (spelled_some name _ h)
+      ∙ sym (with_name (λ n. put (ascii "enum ") ⨾ put n))
 
 -- ---- emit_enum_end
 pub end_put : (t : List ℕ) (at : Placed) (lvl : ℕ) (p : Placed) (t₁ : List ℕ) (q : Placed) (t₂ : List ℕ) (r : Placed) (u : List ℕ)

@@ -1,14 +1,15 @@
 -- The values of an enum of either width: their numbers, what is read of them, and which width they have. Assumes nothing.
-use Prim.Native.Nat.{ℕ, ◌+◌, ◌*◌, ◌≤◌}
+use Prim.Native.Nat.{ℕ, suc, ◌+◌, ◌-◌, ◌*◌, ◌^◌, ◌<◌, ◌≤◌}
 use mathlib.Core.Path.{◌≡◌, refl, ap, ◌∙◌, sym}
 use mathlib.Core.List.{List, ◌++◌}
 use mathlib.Core.Bool.{Bool, true, false}
 use native.Mathlib.Omega.{arith}
-use lib.Dec.{eqb}
-use lib.IntN.{ℤ}
-use mir.Syntax.{w32, w64}
-use mir.Val.{SFits, to_z, of_z}
-use mir.ValLaws.{to_z-of_z}
+use borrow.Author.Tests.{lt-ltb, le-ltb, ltb-true, ltb-false}
+use lib.Dec.{eqb, ltb}
+use lib.IntN.{ℤ, negsuc}
+use mir.Syntax.{Width, w32, w64}
+use mir.Val.{bits, hbits, Fits, SFits, to_z, of_z}
+use mir.ValLaws.{to_z-of_z, to_z_pos, pow-bits}
 use Rattle.spec_bytes.specs.text.Text.{ascii, whole}
 use Rattle.spec_bytes.specs.text.Placed.{Placed, put_out, put_text}
 use Rattle.spec_bytes.specs.text.Decimal.{decimal}
@@ -22,21 +23,45 @@ use Rattle.spec_type_table.specs.declared.types.Entries.{Entries}
 use Rattle.spec_type_table.specs.Names.{str_at}
 use Rattle.spec_type_table.specs.Records.{section_word, vlen_of, kind_of, flag_of, member_at, param_at, entries_of}
 use Rattle.spec_type_table.specs.Table.{from, value_of, value64_of, values_of, values64_of, work_naming}
-use Rattle.c_dumper_bodies.specs.enums.Widths.{is_wide, value_text, enumerator_at, enum_values, value_size, value_at}
+use Rattle.c_dumper_bodies.specs.enums.Widths.{is_wide, value_text, enumerator_at, enum_values, value_at}
+
+-- ---- two's complement, of either width
+
+module _ (w : Width) (v : ℕ) where
+  low : v < 2 ^ hbits w → to_z w v ≡ twos (2 ^ hbits w) v
+  unfolding twos
+  low h = to_z_pos w v h ∙ rw (lt-ltb v (2 ^ hbits w) h, twos)
+
+  high : 2 ^ hbits w ≤ v → v < 2 ^ bits w → to_z w v ≡ twos (2 ^ hbits w) v
+  unfolding twos
+  high h f =
+      let all : 2 ^ hbits w + 2 ^ hbits w ≡ suc (2 ^ bits w - 1) = omega (arith, pow-bits w) in
+      let less : v < suc (2 ^ bits w - 1) = omega arith in
+      rw (to_z, le-ltb v (2 ^ hbits w) h, twos, all, lt-ltb v (suc (2 ^ bits w - 1)) less) (ap negsuc (omega arith))
+
+  twos_is : Fits w v → to_z w v ≡ twos (2 ^ hbits w) v
+  twos_is f = go (ltb v (2 ^ hbits w)) refl
+    where
+      go : (t : Bool) → ltb v (2 ^ hbits w) ≡ t → to_z w v ≡ twos (2 ^ hbits w) v
+      go true e = low (ltb-true v (2 ^ hbits w) e)
+      go false e = high (ltb-false v (2 ^ hbits w) e) f.fits
+
+  cast_twos : (r : ℤ) → Fits w v → SFits w r → r ≡ to_z w v → to_z w (of_z w r) ≡ twos (2 ^ hbits w) v
+  cast_twos r f g e = to_z-of_z w r g ∙ e ∙ twos_is f
 
 -- ---- the number
 module _ (t : List ℕ) (at r : Placed) (u : List ℕ) (f : Bool) (v : ℕ) where
-  pub put_signed : (x : ℤ) → f ≡ true → SFits w32 x → x ≡ twos 2147483648 v → put_out r u ≡ put_text t at (whole (signed (to_z w32 (of_z w32 x)))) → put_out r u ≡ put_text t at (whole (enum_value f v))
+  pub put_signed : (x : ℤ) → f ≡ true → Fits w32 v → SFits w32 x → x ≡ to_z w32 v → put_out r u ≡ put_text t at (whole (signed (to_z w32 (of_z w32 x)))) → put_out r u ≡ put_text t at (whole (enum_value f v))
   unfolding enum_value
-  put_signed x h k e o = rw h (o ∙ ap (λ (y : ℤ). put_text t at (whole (signed y))) (to_z-of_z w32 x k ∙ e))
+  put_signed x h g k e o = rw h (o ∙ ap (λ (y : ℤ). put_text t at (whole (signed y))) (cast_twos w32 v x g k e))
 
   pub put_plain : f ≡ false → put_out r u ≡ put_text t at (whole (decimal v)) → put_out r u ≡ put_text t at (whole (enum_value f v))
   unfolding enum_value
   put_plain h o = rw h o
 
-  pub put_signed64 : (x : ℤ) → f ≡ true → SFits w64 x → x ≡ twos 9223372036854775808 v → put_out r u ≡ put_text t at (whole (signed_ll (to_z w64 (of_z w64 x)))) → put_out r u ≡ put_text t at (whole (enum64_value f v))
+  pub put_signed64 : (x : ℤ) → f ≡ true → Fits w64 v → SFits w64 x → x ≡ to_z w64 v → put_out r u ≡ put_text t at (whole (signed_ll (to_z w64 (of_z w64 x)))) → put_out r u ≡ put_text t at (whole (enum64_value f v))
   unfolding enum64_value
-  put_signed64 x h k e o = rw h (o ∙ ap (λ (y : ℤ). put_text t at (whole (signed_ll y))) (to_z-of_z w64 x k ∙ e))
+  put_signed64 x h g k e o = rw h (o ∙ ap (λ (y : ℤ). put_text t at (whole (signed_ll y))) (cast_twos w64 v x g k e))
 
   pub put_plain64 : f ≡ false → put_out r u ≡ put_text t at (whole (decimal v ++ ascii "ULL")) → put_out r u ≡ put_text t at (whole (enum64_value f v))
   unfolding enum64_value
@@ -58,30 +83,15 @@ module _ (t : List ℕ) (p r : Placed) (u : List ℕ) (w f : Bool) (b : TypeTabl
   unfolding value_text enumerator_at value_of
   put_narrow h e o = width_is false h (o ∙ ap (λ (x : ℕ). put_text t p (whole (enum_value f x))) e)
 
--- ---- the size and the place of a value
-pub size_wide : (w : Bool) → w ≡ true → 12 ≡ value_size w
-unfolding value_size
-size_wide w h = rw h
+-- ---- the place of a value
+module _ (w : Bool) (at k place : ℕ) where
+  pub place_wide : w ≡ true → place ≡ member_at at k → place ≡ value_at w at k
+  unfolding value_at
+  place_wide h e = rw h e
 
-pub size_narrow : (w : Bool) → w ≡ false → 8 ≡ value_size w
-unfolding value_size
-size_narrow w h = rw h
-
-pub place_first : (w : Bool) (at place : ℕ) → place ≡ member_at at 0 → place ≡ value_at w at 0
-unfolding value_at
-place_first true at place e = e
-place_first false at place e = e
-
-pub place_next : (w : Bool) (at k place size : ℕ) → place ≡ value_at w at k → size ≡ value_size w → place + size ≡ value_at w at (k + 1)
-unfolding value_at value_size
-place_next true at k place size e f = omega arith
-place_next false at k place size e f = omega arith
-
--- and no place is far: so much for each value, and as much again
-pub place_low : (w : Bool) (at k place size : ℕ) → place ≡ value_at w at k → size ≡ value_size w → place + size ≤ at + 24 + k * 12
-unfolding value_at value_size
-place_low true at k place size e f = omega arith
-place_low false at k place size e f = omega arith
+  pub place_narrow : w ≡ false → place ≡ param_at at k → place ≡ value_at w at k
+  unfolding value_at
+  place_narrow h e = rw h e
 
 -- ---- what is read of a value is what the table has
 module _ (b : TypeTable) (s : List ℕ) (at k : ℕ) where

@@ -59,7 +59,7 @@ module _ (b : TypeTable) (s : List ℕ) where
 
     -- the record that comes with a base is the one of its id
     unfoldable pub RecordIs : Option Base → Type 0
-    RecordIs (Some x) = x.t ≡ record_by_id b s w x.id
+    RecordIs (Some y) = y.x.t ≡ record_by_id b s w y.x.id
     RecordIs None = Unit {0}
 
     module _ (start : ℕ) where
@@ -73,9 +73,13 @@ module _ (b : TypeTable) (s : List ℕ) where
       chain_at zero = []
       chain_at (suc n) = entry_of (path_at n) ∷ chain_at n
 
+      -- none of the first n entries is a base
+      abbrev pub LeadOn : ℕ → Type 0
+      LeadOn n = only_links (chain_at n) ≡ true
+
       -- what the code's answer says of the chain: without a base it is too deep
       unfoldable pub chain_is : Option Base → Ask (List Entry)
-      chain_is (Some x) = got (base x.id ∷ chain_at x.n)
+      chain_is (Some y) = got (base y.x.id ∷ chain_at y.n)
       chain_is None = no 12
 
       -- the kind of entry k

@@ -22,9 +22,6 @@ enumerator_at wide b s = elim wide [ true ↦ value64_of b s | false ↦ value_o
 abbrev pub enum_values : TypeTable → List ℕ → Record → List Enumerator
 enum_values b s t = from (enumerator_at (is_wide t) b s t.at) 0 (vlen_of t.info)
 
--- the bytes of a value, and the place of value k
-unfoldable pub value_size : Bool → ℕ
-value_size wide = elim wide [ true ↦ 12 | false ↦ 8 ]
-
+-- the place of value k
 unfoldable pub value_at : Bool → ℕ → ℕ → ℕ
 value_at wide at k = elim wide [ true ↦ member_at at k | false ↦ param_at at k ]

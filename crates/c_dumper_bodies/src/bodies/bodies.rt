@@ -13,17 +13,18 @@ ghost use Rattle.c_dumper_bodies.specs.bodies.Pieces.{member_tail, end_from, enu
 ghost use Rattle.c_dumper_bodies.specs.enums.Widths.{is_wide, value_text, enum_values};
 
 use crate::bodies::words::{put_bit_size, put_last_newline, put_packed};
-use crate::enumerators::put_enum_name;
+use crate::enumerators::emit_enum_head;
 use crate::enums::emit_enum_def;
 use base_bytes::put::{put_byte, put_bytes, put_tabs};
 use base_bytes::refusal::Refusal;
 use btf_layout::member_end::member_end;
 use btf_type_table::kind::{is_struct, vlen_of};
+use btf_type_table::node::TypeRef;
 use btf_type_table::table::Table;
 use c_dumper_name_versions::forwards::put_keyword;
 use c_dumper_name_versions::names::{put_name, put_sep_name, resolve_type_name};
-use c_dumper_name_versions::tags::{WHOLE_TYPE, emit_decl_tags};
-use spec_type_table::{BtfMember, BtfType};
+use c_dumper_name_versions::tags::emit_decl_tags;
+use spec_type_table::BtfMember;
 
 // Where a member ended: the place in the text, and the bit where the next may begin.
 #[derive(Clone, Copy)]
@@ -32,26 +33,33 @@ pub struct Spot {
     pub offset: u32,
 }
 
+// The body of a composite: its type, whether it is packed, and the level of its closing bracket; its members stand one level deeper.
+#[derive(Clone, Copy)]
+pub struct Body {
+    pub x: TypeRef,
+    pub packed: bool,
+    pub lvl: u32,
+}
+
 // A nameless enum is printed inline.
 pub fn emit_enum_word(
     b: &Table,
     work: &mut [u8],
     text: &mut [u8],
     at: usize,
-    id: u32,
-    t: BtfType,
+    x: TypeRef,
     lvl: u32,
 ) -> Result<usize, Refusal>
     ensures { out_of result text.new work.new
         ≡ put_said text.old (Ok at) (enum_text (work_naming b.now.head) (btf_of b.now.head b.now.section.now work.old)
-        (value_text (is_wide t) (flag_of t.info)) id (record_name b.now.head b.now.section.now t)
-        (enum_values b.now.head b.now.section.now t) lvl
+        (value_text (is_wide x.t) (flag_of x.t.info)) x.id (record_name b.now.head b.now.section.now x.t)
+        (enum_values b.now.head b.now.section.now x.t) lvl
         work.old) }
 {
-    if b.is_empty(t.name_off) {
-        return emit_enum_def(b, work, text, at, id, t, lvl);
+    if b.is_empty(x.t.name_off) {
+        return emit_enum_def(b, work, text, at, x, lvl);
     }
-    put_enum_name(b, work, text, at, id, t.name_off)
+    emit_enum_head(b, work, text, at, x.id, x.t.name_off)
 }
 
 pub fn put_typedef_name(
@@ -75,15 +83,14 @@ pub fn emit_composite_head(
     work: &mut [u8],
     text: &mut [u8],
     at: usize,
-    id: u32,
-    t: BtfType,
+    x: TypeRef,
 ) -> Result<usize, Refusal>
     ensures { out_of result text.new work.new
-        ≡ put_said text.old (Ok at) (composite_head (work_naming b.now.head) (btf_of b.now.head b.now.section.now work.old) no_decl id
-        (eqb (kind_of t.info) 4) (record_name b.now.head b.now.section.now t) work.old) }
+        ≡ put_said text.old (Ok at) (composite_head (work_naming b.now.head) (btf_of b.now.head b.now.section.now work.old) no_decl x.id
+        (eqb (kind_of x.t.info) 4) (record_name b.now.head b.now.section.now x.t) work.old) }
 {
-    let name = resolve_type_name(b, work, id, t.name_off);
-    let a = put_keyword(b.head, text, at, is_struct(t))?;
+    let name = resolve_type_name(b, work, x.id, x.t.name_off);
+    let a = put_keyword(b.head, text, at, is_struct(x.t))?;
     let c = put_sep_name(b, text, a, name)?;
     put_bytes(text, c, b" {")
 }
@@ -106,7 +113,7 @@ pub fn emit_member_end(
 {
     let a = put_bit_size(text, at, m.bit_size)?;
     let offset = member_end(b, work, m)?;
-    let c = emit_decl_tags(b, work, text, a, id, k)?;
+    let c = emit_decl_tags(b, work, text, a, id, Some(k))?;
     let at = put_byte(text, c, b';')?;
     Ok(Spot { at, offset })
 }
@@ -117,18 +124,15 @@ pub fn emit_composite_end(
     work: &[u8],
     text: &mut [u8],
     at: usize,
-    id: u32,
-    t: BtfType,
-    packed: bool,
-    lvl: u32,
+    body: Body,
 ) -> Result<usize, Refusal>
     ensures { out_of result text.new work.now
-        ≡ put_said text.old (Ok at) (composite_end (work_naming b.now.head) (btf_of b.now.head b.now.section.now work.now) no_decl id lvl
-        (members_of b.now.head b.now.section.now t) packed work.now) }
+        ≡ put_said text.old (Ok at) (composite_end (work_naming b.now.head) (btf_of b.now.head b.now.section.now work.now) no_decl
+        body.x.id body.lvl (members_of b.now.head b.now.section.now body.x.t) body.packed work.now) }
 {
-    let a = put_last_newline(text, at, vlen_of(t.info))?;
-    let c = put_tabs(text, a, lvl)?;
+    let a = put_last_newline(text, at, vlen_of(body.x.t.info))?;
+    let c = put_tabs(text, a, body.lvl)?;
     let d = put_byte(text, c, b'}')?;
-    let e = put_packed(text, d, packed)?;
-    emit_decl_tags(b, work, text, e, id, WHOLE_TYPE)
+    let e = put_packed(text, d, body.packed)?;
+    emit_decl_tags(b, work, text, e, body.x.id, None)
 }

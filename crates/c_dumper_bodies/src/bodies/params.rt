@@ -12,7 +12,7 @@ pub fn shown_params(b: &Table, params: Entries) -> Entries
     ensures { from (param_of b.now.head b.now.section.now result.at) 0 result.vlen
         ≡ shown_params (from (param_of b.now.head b.now.section.now params.at) 0 params.vlen) }
 {
-    if params.vlen == 1 && b.word(param_place(params, 0) + 4) == 0 {
+    if params.vlen == 1 && b.word(param_place(params.at, 0) + 4) == 0 {
         return Entries { vlen: 0, ..params };
     }
     params

@@ -7,6 +7,7 @@ ghost use Rattle.c_dumper_bodies.specs.chain.Chains as chains;
 ghost use Rattle.c_dumper_bodies.specs.chain.Chains.{next_of, path_at, chain_is, RecordIs, kind_at};
 
 use base_bytes::limit;
+use btf_type_table::node::TypeRef;
 use btf_type_table::table::Table;
 use spec_type_table::{BtfType, Kind};
 
@@ -32,16 +33,15 @@ fn next_of(b: &Table, t: BtfType) -> u32
     ensures { result ≡ next_of b.now.head b.now.section.now t }
 {
     match Kind::of(t.info) {
-        Kind::Array => b.array_type(t),
+        Kind::Array => b.extra_word(t),
         _ => t.type_id,
     }
 }
 
-// The base that a chain ends with, its record, and how many entries lead there.
+// The base that a chain ends with, and how many entries lead there.
 #[derive(Clone, Copy)]
 pub struct Base {
-    pub id: u32,
-    pub t: BtfType,
+    pub x: TypeRef,
     pub n: u32,
 }
 
@@ -55,7 +55,8 @@ pub fn chain_base(b: &Table, work: &[u8], start: u32) -> Option<Base>
     for n in 0..limit::MOST_CALLS {
         let t = b.type_by_id(work, id);
         if !is_link(Kind::of(t.info)) {
-            return Some(Base { id, t, n });
+            let x = TypeRef { id, t };
+            return Some(Base { x, n });
         }
         id = next_of(b, t);
     }
@@ -66,11 +67,7 @@ pub fn chain_base(b: &Table, work: &[u8], start: u32) -> Option<Base>
 pub fn path_at(b: &Table, work: &[u8], start: u32, k: u32) -> u32
     ensures { result ≡ path_at b.now.head b.now.section.now work.now start k }
 {
-    let mut id = start;
-    for _ in 0..k {
-        id = next_of(b, b.type_by_id(work, id));
-    }
-    id
+    (0..k).fold(start, |id, _| next_of(b, b.type_by_id(work, id)))
 }
 
 // The kind of entry k.

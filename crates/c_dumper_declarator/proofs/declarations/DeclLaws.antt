@@ -42,7 +42,7 @@ no_base (Some y) d e = absurd (let z : ◌≡◌ {A = ℕ} 0 1 = cc in omega ari
 
 module _ (b : TypeTable) (s : List ℕ) where
   -- ---- emit_type_decl
-  pub decl_record : (u : List ℕ) (x : Option Base) (y : Base) → RecordIs b s u x → x ≡ Some y → y.t ≡ record_by_id b s u y.id
+  pub decl_record : (u : List ℕ) (x : Option Base) (y : Base) → RecordIs b s u x → x ≡ Some y → y.x.t ≡ record_by_id b s u y.x.id
   unfolding RecordIs
   decl_record u x y p e = subst (RecordIs b s u) e p
 
@@ -52,11 +52,11 @@ module _ (b : TypeTable) (s : List ℕ) where
 
     module _ (h : left ≡ 0 → ⊥) (x : Option Base) (a : (chain_is b s u id x ≡ chain_of 512 (T b s u) id []) × RecordIs b s u x) where
       pub decl_got : (y : Base) (t' u' : List ℕ) (r : Placed) → x ≡ Some y
-          → out_of r t' u' ≡ put_said t (Ok at) (emit_type_chain_once (Q b s (T b s u)) (N b s) (T b s u) (left - 1) (base y.id ∷ chain_at b s u id y.n) fname lvl u) → out_of r t' u' ≡ put_said t (Ok at) (emit_type_decl_once (Q b s (T b s u)) (N b s) (T b s u) left id fname lvl u)
+          → out_of r t' u' ≡ put_said t (Ok at) (emit_type_chain_once (Q b s (T b s u)) (N b s) (T b s u) (left - 1) (base y.x.id ∷ chain_at b s u id y.n) fname lvl u) → out_of r t' u' ≡ put_said t (Ok at) (emit_type_decl_once (Q b s (T b s u)) (N b s) (T b s u) left id fname lvl u)
       unfolding chain_is
       decl_got y t' u' r e o =
           said_as t (Ok at) _ _ u r t' u' (sym (decl_some (Q b s (T b s u)) (N b s) (T b s u) left id fname lvl h))
-          (put_given t (Ok at) (λ c. emit_type_chain_once (Q b s (T b s u)) (N b s) (T b s u) (left - 1) c fname lvl) u (base y.id ∷ chain_at b s u id y.n) (chain_of 512 (T b s u) id []) r t' u' (sym a.0 ∙ ap (chain_is b s u id) e) o)
+          (put_given t (Ok at) (λ c. emit_type_chain_once (Q b s (T b s u)) (N b s) (T b s u) (left - 1) c fname lvl) u (base y.x.id ∷ chain_at b s u id y.n) (chain_of 512 (T b s u) id []) r t' u' (sym a.0 ∙ ap (chain_is b s u id) e) o)
 
       pub decl_no : (d : Refusal) (r : Placed) → Err d ≡ ok_or x TooDeep → IsErrAnd r (λ e. e ≡ d) → out_of r t u ≡ put_said t (Ok at) (emit_type_decl_once (Q b s (T b s u)) (N b s) (T b s u) left id fname lvl u)
       unfolding chain_is

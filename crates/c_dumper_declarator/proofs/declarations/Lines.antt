@@ -8,14 +8,12 @@ use borrow.Author.Tests.{ne_eqb}
 use Rattle.spec_bytes.specs.text.Text.{ascii, pfx, join}
 use Rattle.spec_c_dumper.specs.rules.Writer.{Ask, got, no, ask_then, Writer, after, next, ◌⨾◌, put, given}
 use Rattle.spec_c_dumper.specs.rules.Types.{Name, Member, Btf}
+use Rattle.spec_c_dumper.proofs.alignment_once.Right.{no_got}
 use Rattle.spec_c_dumper.specs.rules.Names.{Naming}
 use Rattle.spec_c_dumper.specs.rules.Layout.{Pad, bit_padding, end_of}
 use Rattle.spec_c_dumper.specs.rules.Decl.{pads, own_line, tail_text, bit_size_of, emit_decl_tags, emit_members}
 use Rattle.spec_c_dumper.specs.rules.SystemV.{Line, field, pad_lines, body_lines, write_lines}
 use Rattle.c_dumper_declarator.proofs.declarations.Sequences.{then_assoc, nothing_then, then_nothing}
-
-no_got : {A : Type 0} (c : ℕ) (a : A) → no c ≡ got a → ⊥
-no_got c a e = let z : ◌≡◌ {A = ℕ} 0 1 = cc in omega arith
 
 record Then {A C : Type 0} (x : Ask A) (k : A → Ask C) (c : C) : Type 0 where
   value : A

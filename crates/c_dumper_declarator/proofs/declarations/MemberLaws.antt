@@ -30,7 +30,7 @@ use Rattle.spec_type_table.specs.declared.types.BtfType.{BtfType as Record}
 use Rattle.spec_type_table.specs.Names.{str_at}
 use Rattle.spec_type_table.specs.Records.{section_word, param_at, member_of}
 use Rattle.spec_type_table.specs.Table.{from, param_of, rule_member, btf_of}
-use Rattle.std.specs.Prelude.{Result, Ok, Err, IsErrAnd, IfOk}
+use Rattle.std.specs.Prelude.{None, Result, Ok, Err, IsErrAnd, IfOk}
 use Rattle.spec_bytes.proofs.text.TextLaws.{put_past, put_ended, put_cut}
 use Rattle.spec_bytes.specs.declared.refusal.Refusal.{Refusal}
 use Rattle.spec_bytes.specs.declared.refusal.Refusal.TheVariants.{TooDeep}
@@ -92,11 +92,11 @@ module _ (b : TypeTable) (s : List ℕ) where
         (said_as t₁ a (put (ascii "...")) _ w r t₂ w (sym (ap (λ (z : Bool). elim z as (λ _. Writer (List ℕ)) [ true ↦ put (ascii "...") | false ↦ declare (param_of b s pat k).type_id (param_of b s pat k).name ]) (test_is ∙ h)))
         (put_only t₁ a _ w r t₂ o₂))
 
-    name_is : (off : ℕ) (nm : Printing) → off ≡ section_word b s p → nm ≡ record { off = off; version = 0 } → name_text b s nm ≡ (param_of b s pat k).name
+    name_is : (off : ℕ) (nm : Printing) → off ≡ section_word b s p → nm ≡ record { off = off; number = None } → name_text b s nm ≡ (param_of b s pat k).name
     unfolding param_of
     name_is off nm eo en = bare_text b s nm off en ∙ ap (str_at b s) (eo ∙ ap (section_word b s) ep)
 
-    pub param_decl : (off : ℕ) (nm : Printing) (r : Placed) (t₂ w₂ : List ℕ) → q ≡ false → off ≡ section_word b s p → nm ≡ record { off = off; version = 0 }
+    pub param_decl : (off : ℕ) (nm : Printing) (r : Placed) (t₂ w₂ : List ℕ) → q ≡ false → off ≡ section_word b s p → nm ≡ record { off = off; number = None }
         → out_of r t₂ w₂ ≡ put_said t₁ a (declare x (name_text b s nm) w)
         → out_of r t₂ w₂ ≡ put_said txt at (param_text declare (eqb k 0) (param_of b s pat k) (leb vlen (k + 1)) w)
     unfolding param_text emit_param
@@ -180,7 +180,7 @@ module _ (b : TypeTable) (s : List ℕ) where
   -- what it writes
   module _ (below id lvl : ℕ) (packed : Bool) (k : ℕ) (txt : List ℕ) (spot : Spot) (w : List ℕ) where
     member_of_lem : (m : BtfMember) (nm : Printing) (a : Placed) (t₁ w₁ : List ℕ) (c : Placed) (t₂ : List ℕ) (e : Placed) (t₃ : List ℕ) (f : Placed) (t₄ w₄ : List ℕ) (r : Placed) (t₅ : List ℕ)
-        → nm ≡ record { off = m.name_off; version = 0 }
+        → nm ≡ record { off = m.name_off; number = None }
         → out_of a t₁ w₁ ≡ put_said txt (Ok spot.at) (pad_said b.types (T b s w) spot.offset (rule_member b s m) packed lvl w)
         → put_out c t₂ ≡ put_text t₁ a (whole (ascii "\n")) → put_out e t₃ ≡ put_text t₂ c (whole (pfx lvl))
         → out_of f t₄ w₄ ≡ put_said t₃ e (emit_type_decl_once (Q b s (T b s w₁)) (N b s) (T b s w₁) below m.type_id (name_text b s nm) lvl w₁)
@@ -197,16 +197,20 @@ module _ (b : TypeTable) (s : List ℕ) where
         (said_as t₃ e _ _ w₁ f t₄ w₄ (ap (λ (n : Name). emit_type_decl_once (Q b s (T b s w₁)) (N b s) (T b s w₁) below m.type_id n lvl) (bare_text b s nm m.name_off en)) o₄)
         o₅)))
 
-    pub member_said : (t : Record) (m : BtfMember) (nm : Printing) (a : Placed) (t₁ w₁ : List ℕ) (c : Placed) (t₂ : List ℕ) (e : Placed) (t₃ : List ℕ) (f : Placed) (t₄ w₄ : List ℕ) (r : Placed) (t₅ : List ℕ)
+    pub member_said : (t : Record) (m : BtfMember) (nm : Printing) (deep : ℕ) (a : Placed) (t₁ w₁ : List ℕ) (c : Placed) (t₂ : List ℕ) (e : Placed) (t₃ : List ℕ) (f : Placed) (t₄ w₄ : List ℕ) (r : Placed) (t₅ : List ℕ)
         → m ≡ member_of b s t k
-        → nm ≡ record { off = m.name_off; version = 0 }
-        → out_of a t₁ w₁ ≡ put_said txt (Ok spot.at) (pad_said b.types (T b s w) spot.offset (rule_member b s m) packed lvl w)
-        → put_out c t₂ ≡ put_text t₁ a (whole (ascii "\n")) → put_out e t₃ ≡ put_text t₂ c (whole (pfx lvl))
-        → out_of f t₄ w₄ ≡ put_said t₃ e (emit_type_decl_once (Q b s (T b s w₁)) (N b s) (T b s w₁) below m.type_id (name_text b s nm) lvl w₁)
+        → nm ≡ record { off = m.name_off; number = None }
+        → deep ≡ lvl
+        → out_of a t₁ w₁ ≡ put_said txt (Ok spot.at) (pad_said b.types (T b s w) spot.offset (rule_member b s m) packed deep w)
+        → put_out c t₂ ≡ put_text t₁ a (whole (ascii "\n")) → put_out e t₃ ≡ put_text t₂ c (whole (pfx deep))
+        → out_of f t₄ w₄ ≡ put_said t₃ e (emit_type_decl_once (Q b s (T b s w₁)) (N b s) (T b s w₁) below m.type_id (name_text b s nm) deep w₁)
         → out_of r t₅ w₄ ≡ put_said t₄ f (member_tail (T b s w₄) id k (rule_member b s m) w₄)
         → out_of r t₅ w₄ ≡ put_said txt (Ok spot.at) (member_text (Q b s (T b s w)) (N b s) (T b s w) below id lvl packed k spot.offset (rule_member b s (member_of b s t k)) w)
-    member_said t m nm a t₁ w₁ c t₂ e t₃ f t₄ w₄ r t₅ em en o₁ o₂ o₃ o₄ o₅ =
-        member_of_lem m nm a t₁ w₁ c t₂ e t₃ f t₄ w₄ r t₅ en o₁ o₂ o₃ o₄ o₅
+    member_said t m nm deep a t₁ w₁ c t₂ e t₃ f t₄ w₄ r t₅ em en ed o₁ o₂ o₃ o₄ o₅ =
+        member_of_lem m nm a t₁ w₁ c t₂ e t₃ f t₄ w₄ r t₅ en
+        (o₁ ∙ ap (λ (j : ℕ). put_said txt (Ok spot.at) (pad_said b.types (T b s w) spot.offset (rule_member b s m) packed j w)) ed) o₂
+        (o₃ ∙ ap (λ (j : ℕ). put_text t₂ c (whole (pfx j))) ed)
+        (o₄ ∙ ap (λ (j : ℕ). put_said t₃ e (emit_type_decl_once (Q b s (T b s w₁)) (N b s) (T b s w₁) below m.type_id (name_text b s nm) j w₁)) ed) o₅
         ∙ ap (λ (y : BtfMember). put_said txt (Ok spot.at) (member_text (Q b s (T b s w)) (N b s) (T b s w) below id lvl packed k spot.offset (rule_member b s y) w)) em
 
   -- ---- emit_members: what is left from the k-th on
@@ -242,13 +246,14 @@ module _ (b : TypeTable) (s : List ℕ) where
     unfolding emit_members_once
     members_none k offset B h = ap (members_below (Q b s B) (N b s) B below id tail lvl packed k offset) (from_none f k vlen h)
 
-    pub members_end : (t₀ : List ℕ) (at₀ : Placed) (s₀ : Said (List ℕ)) (t : List ℕ) (p : Placed) (offset k : ℕ) (w : List ℕ) (r : Placed) (t' : List ℕ) → k ≡ vlen
-        → Leads b s t₀ at₀ s₀ t p (members_left k offset w) → put_out r t' ≡ put_text t p (whole (tail_text lvl vlen (tail offset))) → out_of r t' w ≡ put_said t₀ at₀ s₀
+    pub members_end : (t₀ : List ℕ) (at₀ : Placed) (s₀ : Said (List ℕ)) (t : List ℕ) (p : Placed) (offset k : ℕ) (w : List ℕ) (deep : ℕ) (r : Placed) (t' : List ℕ) → k ≡ vlen → deep ≡ lvl
+        → Leads b s t₀ at₀ s₀ t p (members_left k offset w) → put_out r t' ≡ put_text t p (whole (tail_text deep vlen (tail offset))) → out_of r t' w ≡ put_said t₀ at₀ s₀
     unfolding members_left
-    members_end t₀ at₀ s₀ t p offset k w r t' e l o =
+    members_end t₀ at₀ s₀ t p offset k w deep r t' e ed l o =
         let h : vlen ≤ k = omega arith in
         leads_end b s t₀ at₀ s₀ t p _ r t' w l (said_as t p (put (tail_text lvl vlen (tail offset))) _ w r t' w
-        (ap (λ (j : ℕ). put {U = List ℕ} (tail_text lvl j (tail offset))) (sym e) ∙ sym (members_none k offset (T b s w) h)) (put_only t p _ w r t' o))
+        (ap (λ (j : ℕ). put {U = List ℕ} (tail_text lvl j (tail offset))) (sym e) ∙ sym (members_none k offset (T b s w) h))
+        (put_only t p _ w r t' (o ∙ ap (λ (j : ℕ). put_text t p (whole (tail_text j vlen (tail offset)))) ed)))
 
     pub members_whole : (txt : List ℕ) (at : Placed) (w : List ℕ) (n : ℕ) (r : Placed) (t' w' : List ℕ) → vlen ≡ n → out_of r t' w' ≡ put_said txt at (members_left 0 0 w)
         → out_of r t' w' ≡ put_said txt at (members_below (Q b s (T b s w)) (N b s) (T b s w) below id tail lvl packed 0 0 (from f 0 n) w)

@@ -1,22 +1,25 @@
 -- What the code reads of a type, against the rules: its order state, its kind and its name. Assumes nothing.
-use Prim.Native.Nat.{ℕ, ◌+◌}
+use Prim.Native.Nat.{ℕ}
 use mathlib.Core.Path.{◌≡◌, refl, ap, ◌∙◌, sym}
 use mathlib.Core.List.{List}
-use mathlib.Core.Bool.{Bool, true, false, not}
+use mathlib.Core.Bool.{true, false, true≢false}
 use mathlib.Core.Logic.{◌⊎◌, inl, inr}
 use borrow.Author.Tests.{ne_eqb}
-use Rattle.spec_c_dumper.specs.rules.Order.{new, busy, done, is_comp}
+use Rattle.spec_c_dumper.specs.rules.Order.{new, busy, done, comp, is_comp}
 use Rattle.spec_c_dumper.specs.rules.Types.{BtfType, node_of, is_named}
 use Rattle.spec_type_table.specs.declared.types.TypeTable.{TypeTable}
 use Rattle.spec_type_table.specs.declared.types.BtfType.{BtfType as Record}
+use Rattle.spec_type_table.specs.declared.types.Entries.{Entries}
 use Rattle.spec_type_table.specs.declared.node.Node.{Node as Code}
+use Rattle.spec_type_table.specs.declared.node.Node.TheVariants as code
 use Rattle.spec_type_table.specs.Cells.{get_field}
-use Rattle.spec_type_table.specs.Records.{section_word, kind_of, record_by_id}
+use Rattle.spec_type_table.specs.Records.{kind_of, entries_of, record_by_id}
 use Rattle.spec_type_table.specs.Table.{type_of, btf_of}
 use Rattle.spec_type_table.specs.Nodes.{node_is}
 use Rattle.spec_type_table.specs.declared.kind.Kind.{Kind}
 use Rattle.spec_type_table.specs.declared.kind.Kind.TheVariants.{Void, Int, Ptr, Array, Struct, Union, Enum, Fwd, Typedef, Volatile, Const, Restrict, Func, FuncProto, Var, Datasec, Float, DeclTag, TypeTag, Enum64, Unknown}
 use Rattle.spec_type_table.specs.Kinds.{kind_named}
+use Rattle.spec_type_table.proofs.KindLaws.{member_types_lem}
 use Rattle.spec_type_table.proofs.KindTypes.{type_as, type_is}
 use Rattle.c_dumper_dependency_order.specs.order_state.Work.{Marks, mark_of, work_store, table_in}
 
@@ -37,46 +40,60 @@ pub get_at : (m : Marks) (x : ℕ) → work_store.get m x ≡ mark_of (get_field
 unfolding work_store
 get_at m x = refl
 
--- ---- tests
-pub not_true : (x : Bool) → not x ≡ true → x ≡ false
-not_true true e = sym e
-not_true false e = refl
-
-pub not_not : (x : Bool) → not (not x) ≡ x
-not_not true = refl
-not_not false = refl
-
 -- ---- an id in progress
 module _ (b : TypeTable) (s : List ℕ) (t : Record) where
   pub comp_yes : (k : Kind) → k ≡ kind_named (kind_of t.info) → (k ≡ Struct) ⊎ (k ≡ Union) → is_comp (node_of (type_of b s t)) ≡ true
   comp_yes k ek (inl f) = ap (λ (y : BtfType). is_comp (node_of y)) (type_is b s t k ek Struct f)
   comp_yes k ek (inr f) = ap (λ (y : BtfType). is_comp (node_of y)) (type_is b s t k ek Union f)
 
+  comp_or_not : (y : Kind) → ((y ≡ Struct) ⊎ (y ≡ Union)) ⊎ (is_comp (node_of (type_as b s t y)) ≡ false)
+  comp_or_not Void = inr refl
+  comp_or_not Int = inr refl
+  comp_or_not Ptr = inr refl
+  comp_or_not Array = inr refl
+  comp_or_not Struct = inl (inl refl)
+  comp_or_not Union = inl (inr refl)
+  comp_or_not Enum = inr refl
+  comp_or_not Fwd = inr refl
+  comp_or_not Typedef = inr refl
+  comp_or_not Volatile = inr refl
+  comp_or_not Const = inr refl
+  comp_or_not Restrict = inr refl
+  comp_or_not Func = inr refl
+  comp_or_not FuncProto = inr refl
+  comp_or_not Var = inr refl
+  comp_or_not Datasec = inr refl
+  comp_or_not Float = inr refl
+  comp_or_not DeclTag = inr refl
+  comp_or_not TypeTag = inr refl
+  comp_or_not Enum64 = inr refl
+  comp_or_not Unknown = inr refl
+
   no_comp : (y : Kind) → ((y ≡ Struct) ⊎ (y ≡ Union) → ⊥) → is_comp (node_of (type_as b s t y)) ≡ false
-  no_comp Void n = refl
-  no_comp Int n = refl
-  no_comp Ptr n = refl
-  no_comp Array n = refl
-  no_comp Struct n = absurd (n (inl refl))
-  no_comp Union n = absurd (n (inr refl))
-  no_comp Enum n = refl
-  no_comp Fwd n = refl
-  no_comp Typedef n = refl
-  no_comp Volatile n = refl
-  no_comp Const n = refl
-  no_comp Restrict n = refl
-  no_comp Func n = refl
-  no_comp FuncProto n = refl
-  no_comp Var n = refl
-  no_comp Datasec n = refl
-  no_comp Float n = refl
-  no_comp DeclTag n = refl
-  no_comp TypeTag n = refl
-  no_comp Enum64 n = refl
-  no_comp Unknown n = refl
+  no_comp y n = go (comp_or_not y)
+    where
+      go : ((y ≡ Struct) ⊎ (y ≡ Union)) ⊎ (is_comp (node_of (type_as b s t y)) ≡ false) → is_comp (node_of (type_as b s t y)) ≡ false
+      go (inl c) = absurd (n c)
+      go (inr e) = e
 
   pub comp_no : (k : Kind) → k ≡ kind_named (kind_of t.info) → ((k ≡ Struct) ⊎ (k ≡ Union) → ⊥) → is_comp (node_of (type_of b s t)) ≡ false
   comp_no k ek n = ap (λ (y : BtfType). is_comp (node_of y)) (type_is b s t k ek k refl) ∙ no_comp k n
+
+  -- the node of a composite has the members of its record
+  comp_as : (y : Kind) → is_comp (node_of (type_as b s t y)) ≡ true → node_is b s (code.Composite (entries_of t)) ≡ node_of (type_as b s t y)
+  unfolding node_is
+  comp_as y h = go (comp_or_not y)
+    where
+      go : ((y ≡ Struct) ⊎ (y ≡ Union)) ⊎ (is_comp (node_of (type_as b s t y)) ≡ false) → node_is b s (code.Composite (entries_of t)) ≡ node_of (type_as b s t y)
+      go (inl (inl e)) = ap comp (sym (member_types_lem b s t)) ∙ ap (λ (k : Kind). node_of (type_as b s t k)) (sym e)
+      go (inl (inr e)) = ap comp (sym (member_types_lem b s t)) ∙ ap (λ (k : Kind). node_of (type_as b s t k)) (sym e)
+      go (inr e) = absurd (true≢false (sym h ∙ e))
+
+  pub comp_is : (nd : Code) → node_is b s nd ≡ node_of (type_of b s t) → (es : Entries) → nd ≡ code.Composite es → node_is b s (code.Composite (entries_of t)) ≡ node_of (type_of b s t)
+  unfolding node_is
+  comp_is nd en es e =
+      let q : type_of b s t ≡ type_as b s t (kind_named (kind_of t.info)) = type_is b s t _ refl _ refl in
+      comp_as (kind_named (kind_of t.info)) (ap (λ (y : BtfType). is_comp (node_of y)) (sym q) ∙ sym (ap is_comp (ap (node_is b s) (sym e) ∙ en))) ∙ ap node_of (sym q)
 
 module _ (b : TypeTable) (s : List ℕ) (w : List ℕ) (id : ℕ) (t : Record) (et : t ≡ record_by_id b s w id) where
   pub type_at : (btf_of b s w).type_by_id id ≡ type_of b s t
@@ -93,7 +110,3 @@ module _ (b : TypeTable) (s : List ℕ) (w : List ℕ) (id : ℕ) (t : Record) (
 module _ (b : TypeTable) (s : List ℕ) (w : List ℕ) (id : ℕ) (t : Record) (et : t ≡ record_by_id b s w id) (nd : Code) (en : node_is b s nd ≡ node_of (type_of b s t)) where
   pub node_is_lem : (table_in b s w).node id ≡ node_is b s nd
   node_is_lem = node_at b s w id t et ∙ sym en
-
--- the word of an entry that names its type
-pub entry_word : (b : TypeTable) (s : List ℕ) (p q y : ℕ) → y ≡ section_word b s (p + 4) → p ≡ q → y ≡ section_word b s (q + 4)
-entry_word b s p q y e f = e ∙ ap (λ (n : ℕ). section_word b s (n + 4)) f

@@ -1,15 +1,18 @@
 -- Ordering in the lent work, which notes a leader for each listed id beside it: without the leaders it is `order_within` over the work
 -- (proofs/leaders/Maps); with them, and without a ceiling, it is `order_led` of the definitions, with two numbers for what is being ordered
 -- and words for the leaders (session_origins_walk, proofs/request/Leaders).
-use Rattle.std.specs.Prelude.{ℕ, zero, suc, ◌+◌, ◌*◌, ◌/◌, ◌%◌, Bool, true, false, not, ◌&&◌, ◌||◌, List, get_or, set, eqb, Some, None}
+use Rattle.std.specs.Prelude.{ℕ, zero, suc, ◌+◌, ◌*◌, ◌/◌, ◌%◌, Bool, true, false, not, ◌&&◌, ◌||◌, eqb, Result, Ok, Err}
+use Rattle.std.specs.Prelude.{List, map, get_or, set}
 use Rattle.spec_bytes.specs.Refusals.{refusal_number}
 use Rattle.spec_c_dumper.specs.rules.Order.{Table, is_done, Store}
 use Rattle.spec_c_dumper.specs.ceiling.Ceiling.{Limit, allows, one_call, Told, told, halted}
 use Rattle.spec_c_dumper.specs.ceiling.Ceiling.{alias_within, enter_within, fresh_within, visit_within}
 use Rattle.c_dumper_dependency_order.specs.declared.order_state.Order.{Order}
+use Rattle.c_dumper_dependency_order.specs.declared.order_state.Halted.{Halted}
 use Rattle.c_dumper_dependency_order.specs.order_state.Work.{Marks, work_store}
 use Rattle.spec_c_dumper.specs.origins.Causes.{is_around, entry, Entry}
 use Rattle.c_dumper_dependency_order.specs.declared.leaders.Way.{Way}
+use Rattle.c_dumper_dependency_order.specs.declared.leaders.Lead.{Lead}
 
 -- ---- what is being ordered around a call
 
@@ -26,6 +29,13 @@ way_for true v x = inside_of v x
 way_for false v x = v
 
 -- ---- the leaders: a word for each id, with the request that noted it and the leader
+
+-- a leader of the code as one number
+unfoldable pub lead_word : Lead → ℕ
+lead_word v = v.turn * 4294967296 + v.lead
+
+unfoldable pub lead_words : List Lead → List ℕ
+lead_words = map lead_word
 
 unfoldable pub word_at : List ℕ → ℕ → ℕ
 word_at l x = get_or l x 0
@@ -70,13 +80,15 @@ order_kept c v (suc n) T s x weak k = elim (allows c k) [
   | false ↦ halted 22 k
 ]
 
--- what the code's answer says, with work and leaders at that moment: a stop is a refusal, after which nothing is said of them; the calls
--- made are told in either case
-unfoldable pub kept_out : Order → List ℕ → List ℕ → Told MarksAndLeaders
-kept_out o w l = elim o.stop [
-  | None ↦ told (record { marks = record { work = w; len = o.len }; leads = l }) o.is_strong o.made
-  | Some c ↦ halted (refusal_number c) o.made
-]
+-- the work with its order list, and the leaders, at that moment
+abbrev pub kept_of : Order → List ℕ → List ℕ → MarksAndLeaders
+kept_of o w l = record { marks = record { work = w; len = o.len }; leads = l }
+
+-- what the code's answer says, with work and leaders at that moment: after a refusal nothing is said of them; the calls made are told in
+-- either case
+unfoldable pub kept_out : Result Order Halted → List ℕ → List ℕ → Told MarksAndLeaders
+kept_out (Ok o) w l = told (kept_of o w l) o.is_strong o.made
+kept_out (Err h) w l = halted (refusal_number h.refusal) h.made
 
 -- The clauses of the rules over this store, after k calls: a typedef after its target, the way to an id, a composite, and an id that is not
 -- ordered yet.

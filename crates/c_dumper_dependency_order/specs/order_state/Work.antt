@@ -1,5 +1,5 @@
 -- Ordering in the lent work: the marks stand in word 1 of the types, the order list in their words 11.
-use Rattle.std.specs.Prelude.{ℕ, Bool, true, false, List, eqb, Some}
+use Rattle.std.specs.Prelude.{ℕ, Bool, true, false, List, eqb}
 use Rattle.spec_bytes.specs.declared.refusal.Refusal.{Refusal}
 use Rattle.spec_c_dumper.specs.rules.Order.{Table, Mark, new, busy, done, Store}
 use Rattle.spec_c_dumper.specs.rules.Types.{table_of}
@@ -8,6 +8,7 @@ use Rattle.spec_type_table.specs.Cells.{get_field, put_field}
 use Rattle.spec_bytes.specs.words.Words.{one_more}
 use Rattle.spec_type_table.specs.Table.{from, btf_of}
 use Rattle.c_dumper_dependency_order.specs.declared.order_state.Order.{Order}
+use Rattle.c_dumper_dependency_order.specs.declared.order_state.Halted.{Halted}
 use Rattle.c_dumper_dependency_order.specs.declared.order_state.Mark.{Mark as Code}
 use Rattle.c_dumper_dependency_order.specs.declared.order_state.Mark.TheVariants.{New, Open, Done}
 
@@ -45,7 +46,7 @@ abbrev pub table_in : TypeTable → List ℕ → List ℕ → Table
 table_in b s w = table_of (btf_of b s w)
 
 abbrev pub strong_of : Order → Bool → Order
-strong_of o s = record { made = o.made; len = o.len; stop = o.stop; is_strong = s }
+strong_of o s = record { made = o.made; len = o.len; is_strong = s }
 
-abbrev pub refused_by : Order → Refusal → Order
-refused_by o c = record { made = o.made; len = o.len; stop = Some c; is_strong = false }
+abbrev pub refused_by : Order → Refusal → Halted
+refused_by o c = record { refusal = c; made = o.made }

@@ -6,8 +6,7 @@ use mathlib.Core.Bool.{Bool, true, false}
 use mathlib.Core.Logic.{◌⊎◌, inl, inr}
 use native.Mathlib.Omega.{arith}
 use lib.Dec.{ltb}
-use Rattle.std.specs.Prelude.{Some, None, Ok, Err}
-use Rattle.spec_bytes.specs.declared.refusal.Refusal.{Refusal}
+use Rattle.std.specs.Prelude.{Result, Ok, Err}
 use Rattle.spec_c_dumper.specs.rules.Order.{Table, Node, ignored, plain, listed, through, ptr, tdef, proto, comp, Mark, new, busy, done, Res, ok, refused, fresh, visit, order}
 use Rattle.spec_c_dumper.specs.rules.Machine.{Out, wrote, stuck, Machine, obind, eeach, emit, Sess, Answer, shut, emitted, ordered, ordering, gate, single}
 use Rattle.spec_c_dumper.specs.rules.Types.{BtfType, Btf as Rules, node_of, table_of}
@@ -20,14 +19,15 @@ use Rattle.spec_type_table.specs.declared.kind.Kind.{Kind}
 use Rattle.spec_type_table.specs.declared.kind.Kind.TheVariants as kinds
 use Rattle.spec_type_table.specs.Kinds.{kind_named}
 use Rattle.spec_type_table.proofs.KindTypes.{type_as, type_is}
-use Rattle.spec_c_dumper.specs.ceiling.Ceiling.{Limit, unbounded, most, Told, halted, calls_made, then_bind}
+use Rattle.spec_c_dumper.specs.ceiling.Ceiling.{Limit, unbounded, most, Told, halted, calls_made}
 use Rattle.spec_c_dumper.proofs.ceiling.Counted.{tell, within, passes}
 use Rattle.spec_c_dumper.proofs.ceiling.Plain.{unbounded_is}
 use Rattle.c_dumper_dependency_order.specs.declared.order_state.Order.{Order}
+use Rattle.c_dumper_dependency_order.specs.declared.order_state.Halted.{Halted}
 use Rattle.c_dumper_dependency_order.specs.declared.order_state.Mark.{Mark as CodeMark}
 use Rattle.c_dumper_dependency_order.specs.declared.order_state.Mark.TheVariants.{New, Open, Done}
 use Rattle.c_dumper_dependency_order.specs.order_state.Work.{Marks, mark_is, mark_of, work_store, table_in}
-use Rattle.c_dumper_dependency_order.specs.leaders.Leads.{MarksAndLeaders, order_kept, kept_out, entry_in}
+use Rattle.c_dumper_dependency_order.specs.leaders.Leads.{MarksAndLeaders, order_kept, kept_of, kept_out, entry_in}
 use Rattle.c_dumper_dependency_order.proofs.order_state.Laws.{node_at}
 use Rattle.c_dumper_dependency_order.proofs.order_type.Laws as kept
 use Rattle.c_dumper_dependency_order.proofs.leaders.Maps.{forget_kept}
@@ -59,32 +59,34 @@ module _ (t : List ℕ) (at : ℕ) where
 
 -- ---- dump_type
 abbrev start : ℕ → Order
-start made = record { made = made; len = 0; stop = None; is_strong = false }
+start made = record { made = made; len = 0; is_strong = false }
 
-module _ (b : TypeTable) (s : List ℕ) (lim : Limit) (w : List ℕ) (id turn made : ℕ) (o : Order) (w₁ l₁ l₀ : List ℕ)
-    (e : kept_out o w₁ l₁ ≡ then_bind (kept_out (start made) w l₀) (λ m _ j. order_kept lim (way_to id turn) 512 (table_in b s w) m id false j)) where
-  ran : kept_out o w₁ l₁ ≡ order_kept lim (way_to id turn) 512 (table_in b s w) (kept.kept_of (start made) w l₀) id false made
-  ran = e ∙ kept.run (start made) w l₀ (λ m _ j. order_kept lim (way_to id turn) 512 (table_in b s w) m id false j) refl
+abbrev came : Result Order Halted → ℕ
+came (Ok o) = o.made
+came (Err h) = h.made
 
-  -- the calls made: what ordering says of the work alone
+-- the calls made: what ordering says of the work alone
+module _ (b : TypeTable) (s : List ℕ) (lim : Limit) (w : List ℕ) (id turn made : ℕ) (r : Result Order Halted) (w₁ l₁ l₀ : List ℕ)
+    (e : kept_out r w₁ l₁ ≡ order_kept lim (way_to id turn) 512 (table_in b s w) (kept_of (start made) w l₀) id false made) where
   abbrev marks_of : MarksAndLeaders → Marks
   marks_of k = k.marks
 
-  counted : calls_made (tmap marks_of (kept_out o w₁ l₁)) ≡ o.made
-  unfolding calls_made
-  counted = kept.by_stop _ o (λ z. ap (λ (q : Told MarksAndLeaders). calls_made (tmap marks_of q)) (kept.going o w₁ l₁ z)) (λ c n. ap (λ (q : Told MarksAndLeaders). calls_made (tmap marks_of q)) (kept.stops o w₁ l₁ c n))
+  counted : (q : Result Order Halted) → calls_made (tmap marks_of (kept_out q w₁ l₁)) ≡ came q
+  unfolding calls_made kept_out
+  counted (Ok o) = refl
+  counted (Err h) = refl
 
-  pub made_is : o.made ≡ calls_made (ordered_in (btf_of b s w) lim (record { work = w; len = 0 }) id made)
-  made_is = sym counted ∙ ap calls_made (ap (tmap marks_of) ran ∙ sym (forget_kept lim (way_to id turn) 512 (table_in b s w) (kept.kept_of (start made) w l₀) id false made))
+  pub made_is : came r ≡ calls_made (ordered_in (btf_of b s w) lim (record { work = w; len = 0 }) id made)
+  made_is = sym (counted r) ∙ ap calls_made (ap (tmap marks_of) e ∙ sym (forget_kept lim (way_to id turn) 512 (table_in b s w) (kept_of (start made) w l₀) id false made))
 
-module _ (b : TypeTable) (s : List ℕ) (lent : Lent) (lim : Limit) (p : Pen) (tx w li : List ℕ) (id turn made : ℕ) (o : Order) (w₁ l₁ l₀ : List ℕ)
-    (e : kept_out o w₁ l₁ ≡ then_bind (kept_out (start made) w l₀) (λ m _ j. order_kept lim (way_to id turn) 512 (table_in b s w) m id false j)) where
+module _ (b : TypeTable) (s : List ℕ) (lent : Lent) (lim : Limit) (p : Pen) (tx w li : List ℕ) (id turn made : ℕ) (r₁ : Result Order Halted) (w₁ l₁ l₀ : List ℕ)
+    (e : kept_out r₁ w₁ l₁ ≡ order_kept lim (way_to id turn) 512 (table_in b s w) (kept_of (start made) w l₀) id false made) where
   abbrev X : Rules
   X = btf_of b s w
 
-  order_is : kept_out o w₁ l₁ ≡ ordered_kept X lim (sheet 0 p.at tx w) l₀ id turn made
+  order_is : kept_out r₁ w₁ l₁ ≡ ordered_kept X lim (sheet 0 p.at tx w) l₀ id turn made
   unfolding ordered_kept
-  order_is = ran b s lim w id turn made o w₁ l₁ l₀ e
+  order_is = e
 
   abbrev dumps : Beside → Out Beside
   dumps m = dumped_kept b X lent lim m id turn made
@@ -92,7 +94,7 @@ module _ (b : TypeTable) (s : List ℕ) (lent : Lent) (lim : Limit) (p : Pen) (t
   abbrev begun : Beside
   begun = record { noted = paper 0 p tx w li; leads = l₀ }
 
-  dumped_is : dumps begun ≡ listed_kept b X lent id turn (paper 0 p tx w li) (kept_out o w₁ l₁)
+  dumped_is : dumps begun ≡ listed_kept b X lent id turn (paper 0 p tx w li) (kept_out r₁ w₁ l₁)
   unfolding dumped_kept
   dumped_is = ap (listed_kept b X lent id turn (paper 0 p tx w li)) (sym order_is)
 
@@ -100,14 +102,14 @@ module _ (b : TypeTable) (s : List ℕ) (lent : Lent) (lim : Limit) (p : Pen) (t
   unfolding obind with_leads
   run k = ap (λ (q : Out (Noted Sheet)). obind (with_leads l₀ q) k) (goes 0 p tx w li)
 
-  pub dump_refused : (c : Refusal) → o.stop ≡ Some c → with_leads l₁ (noted_out 0 (Err c) tx w₁ li) ≡ obind (with_leads l₀ (noted_out 0 (Ok p) tx w li)) dumps
-  unfolding listed_kept with_leads
-  dump_refused c e₂ = ap (with_leads l₁) (halts 0 c tx w₁ li) ∙ sym (run dumps ∙ dumped_is ∙ ap (listed_kept b X lent id turn (paper 0 p tx w li)) (kept.stops o w₁ l₁ c e₂))
+  pub dump_refused : (h : Halted) → r₁ ≡ Err h → with_leads l₁ (noted_out 0 (Err h.refusal) tx w₁ li) ≡ obind (with_leads l₀ (noted_out 0 (Ok p) tx w li)) dumps
+  unfolding kept_out listed_kept with_leads
+  dump_refused h eh = ap (with_leads l₁) (halts 0 h.refusal tx w₁ li) ∙ sym (run dumps ∙ dumped_is ∙ ap (λ (q : Result Order Halted). listed_kept b X lent id turn (paper 0 p tx w li) (kept_out q w₁ l₁)) eh)
 
-  module _ (z : o.stop ≡ None) where
+  module _ (o : Order) (z : r₁ ≡ Ok o) where
     -- ordering left the table
     table_is : btf_of b s w₁ ≡ X
-    table_is = kept.stays_run b s o w₁ l₁ w (kept.called_stays lim b s (start made) w l₀ o w₁ l₁ id 512 false (way_to id turn) e) z
+    table_is = kept.called_stays lim b s w (kept_of (start made) w l₀) made o w₁ l₁ id 512 false (way_to id turn) (ap (λ (q : Result Order Halted). kept_out q w₁ l₁) (sym z) ∙ e)
 
     last : Noted Sheet → Out (Noted Sheet)
     last m = wrote (record { mach = (work_machine b X).start 0 m.mach; entries = m.entries })
@@ -120,13 +122,13 @@ module _ (b : TypeTable) (s : List ℕ) (lent : Lent) (lim : Limit) (p : Pen) (t
 
     pub dump_listed : (r : Penned) (t₂ w₂ l₂ : List ℕ) → noted_out o.len r t₂ w₂ l₂ ≡ obind (noted_out o.len (Ok p) tx w₁ li) (λ m. eeach (emit_n b (btf_of b s w₁) lent (entry_in id turn l₁) 512 0) (sheet_store.list m.mach) m)
         → (w₃ : List ℕ) → w₃ ≡ emptied o.len w₂ → with_leads l₁ (noted_out 0 r t₂ w₃ l₂) ≡ obind (with_leads l₀ (noted_out 0 (Ok p) tx w li)) dumps
-    unfolding obind listed_kept each_kept last
+    unfolding obind kept_out listed_kept each_kept last
     dump_listed r t₂ w₂ l₂ e₂ w₃ e₃ =
         ap (with_leads l₁) (cleared_sheet o.len r t₂ w₂ l₂ w₃ e₃
         ∙ ap (λ (q : Out (Noted Sheet)). obind q last) (e₂ ∙ ap (λ (Q : Rules). obind (noted_out o.len (Ok p) tx w₁ li) (λ m. eeach (emit_n b Q lent (entry_in id turn l₁) 512 0) (sheet_store.list m.mach) m)) table_is)
         ∙ obind_then (noted_out o.len (Ok p) tx w₁ li) each last)
         ∙ ap (λ (q : Out (Noted Sheet)). with_leads l₁ (obind q all)) (goes o.len p tx w₁ li)
-        ∙ sym (run dumps ∙ dumped_is ∙ ap (listed_kept b X lent id turn (paper 0 p tx w li)) (kept.going o w₁ l₁ z))
+        ∙ sym (run dumps ∙ dumped_is ∙ ap (λ (q : Result Order Halted). listed_kept b X lent id turn (paper 0 p tx w li) (kept_out q w₁ l₁)) z)
       where
         each : Noted Sheet → Out (Noted Sheet)
         each m = eeach (emit_n b X lent (entry_in id turn l₁) 512 0) (sheet_store.list m.mach) m

@@ -2,11 +2,11 @@
 use Prim.Native.Nat.{ℕ, ◌+◌, ◌<◌, ◌≤◌}
 use mathlib.Core.Path.{◌≡◌, refl, ap, ◌∙◌, sym, subst}
 use mathlib.Core.List.{List}
+use native.Mathlib.Omega.{arith}
 use Rattle.std.specs.Prelude.{Ok, Err, IsErrAnd}
 use Rattle.spec_bytes.specs.declared.refusal.Refusal.{Refusal}
 use Rattle.spec_c_dumper.specs.rules.Machine.{Out, obind, eeach}
 use Rattle.spec_type_table.specs.declared.types.TypeTable.{TypeTable}
-use Rattle.spec_type_table.specs.declared.types.Entries.{Entries}
 use Rattle.spec_type_table.specs.Cells.{get_field}
 use Rattle.spec_type_table.specs.Table.{from, btf_of}
 use Rattle.c_dumper_dependency_order.specs.order_state.Work.{work_store}
@@ -14,8 +14,8 @@ use Rattle.spec_session.specs.emission.Sheet.{Sheet, sheet_store}
 use Rattle.spec_session.proofs.emission.Frame.{places}
 use Rattle.spec_c_dumper.specs.origins.Causes.{Entry, Noted}
 use Rattle.c_dumper_emit.specs.declared.entries.Pen.{Pen}
-use Rattle.c_dumper_dependency_order.specs.declared.entries.Each.{Each}
-use Rattle.c_dumper_dependency_order.specs.entries.Entries.{entry_type, entry_ids}
+use Rattle.c_dumper_dependency_order.specs.declared.entries.Held.{Held}
+use Rattle.c_dumper_dependency_order.specs.entries.Entries.{count_of, entry_type, entry_ids}
 use Rattle.c_dumper_emit.specs.entries.Noted.{Lent, noted_out, emit_n}
 use Rattle.c_dumper_emit.proofs.entries.Frame.{Stays, stays_then, places_emit}
 use Rattle.c_dumper_emit.proofs.entries.Laws.{Penned, kept_by, at_pen, entry_stays}
@@ -50,14 +50,14 @@ module _ (b : TypeTable) (s : List ℕ) (lent : Lent) (why : ℕ → Entry) (w�
   listing_halts c tx w li k inv r e = rest_halts b s lent why w₀ 512 0 (places w₀) n p₀ tx₀ l₀ n c tx w li k inv.rest r e ∙ all_listed
 
 -- ---- emit_entries
-module _ (b : TypeTable) (s : List ℕ) (lent : Lent) (why : ℕ → Entry) (w₀ : List ℕ) (left cont : ℕ) (each : Each) (es : Entries) (n : ℕ) (p₀ : Pen) (tx₀ l₀ : List ℕ) where
+module _ (b : TypeTable) (s : List ℕ) (lent : Lent) (why : ℕ → Entry) (w₀ : List ℕ) (left cont : ℕ) (h : Held) (n : ℕ) (p₀ : Pen) (tx₀ l₀ : List ℕ) where
   abbrev Entered : Out (Noted Sheet) → Type 0
-  Entered x = x ≡ obind (noted_out n (Ok p₀) tx₀ w₀ l₀) (λ m. eeach (emit_n b (btf_of b s w₀) lent why left cont) (entry_ids b s each es) m)
+  Entered x = x ≡ obind (noted_out n (Ok p₀) tx₀ w₀ l₀) (λ m. eeach (emit_n b (btf_of b s w₀) lent why left cont) (entry_ids b s h) m)
 
-  pub entries_end : (p : Pen) (tx w li : List ℕ) (k : ℕ) → Rest b s lent why w₀ left cont (entry_type b s each es) n p₀ tx₀ l₀ es.vlen (Ok p) tx w li k → es.vlen ≤ k → Entered (noted_out n (Ok p) tx w li)
+  pub entries_end : (p : Pen) (tx w li : List ℕ) (k : ℕ) → Rest b s lent why w₀ left cont (entry_type b s h) n p₀ tx₀ l₀ (count_of h) (Ok p) tx w li k → (c : ℕ) → c ≡ count_of h → c ≤ k → Entered (noted_out n (Ok p) tx w li)
   unfolding entry_ids
-  entries_end p tx w li k inv e = rest_end b s lent why w₀ left cont (entry_type b s each es) n p₀ tx₀ l₀ es.vlen p tx w li k inv e
+  entries_end p tx w li k inv c e g = rest_end b s lent why w₀ left cont (entry_type b s h) n p₀ tx₀ l₀ (count_of h) p tx w li k inv (omega (arith, e, g))
 
-  pub entries_halt : (c : Refusal) (tx w li : List ℕ) (k : ℕ) → Rest b s lent why w₀ left cont (entry_type b s each es) n p₀ tx₀ l₀ es.vlen (Err c) tx w li k → (r : Penned) → IsErrAnd r (λ e. e ≡ c) → Entered (noted_out n r tx w li)
+  pub entries_halt : (c : Refusal) (tx w li : List ℕ) (k : ℕ) → Rest b s lent why w₀ left cont (entry_type b s h) n p₀ tx₀ l₀ (count_of h) (Err c) tx w li k → (r : Penned) → IsErrAnd r (λ e. e ≡ c) → Entered (noted_out n r tx w li)
   unfolding entry_ids
-  entries_halt c tx w li k inv r e = rest_halts b s lent why w₀ left cont (entry_type b s each es) n p₀ tx₀ l₀ es.vlen c tx w li k inv r e
+  entries_halt c tx w li k inv r e = rest_halts b s lent why w₀ left cont (entry_type b s h) n p₀ tx₀ l₀ (count_of h) c tx w li k inv r e

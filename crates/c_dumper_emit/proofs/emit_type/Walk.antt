@@ -1,5 +1,5 @@
 -- The walk of emission with entries, an id that is not emitted yet: what each return comes to. Assumes nothing.
-use Prim.Native.Nat.{ℕ, ◌+◌, ◌-◌, ◌*◌, ◌<◌, ◌≤◌}
+use Prim.Native.Nat.{ℕ, ◌+◌, ◌-◌, ◌*◌, ◌<◌}
 use mathlib.Core.Path.{◌≡◌, refl, ap, ◌∙◌, sym, subst}
 use mathlib.Core.List.{List}
 use mathlib.Core.Bool.{Bool, true, false, not, ◌&&◌, ◌||◌, true≢false}
@@ -7,7 +7,6 @@ use mathlib.Core.Logic.{◌⊎◌, inl, inr}
 use native.Mathlib.Omega.{arith}
 use lib.Dec.{eqb}
 use Rattle.std.specs.Prelude.{Ok}
-use Rattle.spec_c_dumper.specs.rules.Order.{is_comp}
 use Rattle.spec_c_dumper.specs.rules.Machine.{Out, wrote, is_zero, pick, obind, eeach, once, close, within, begin}
 use Rattle.spec_c_dumper.specs.rules.Types.{BtfType, Btf as Rules, node_of, is_named, table_of}
 use Rattle.spec_type_table.specs.declared.types.TypeTable.{TypeTable}
@@ -16,12 +15,11 @@ use Rattle.spec_type_table.specs.declared.types.Entries.{Entries}
 use Rattle.spec_type_table.specs.declared.node.Node.{Node as Code}
 use Rattle.spec_type_table.specs.declared.node.Node.TheVariants as code
 use Rattle.spec_type_table.specs.Cells.{get_field, put_field}
-use Rattle.spec_type_table.specs.Records.{kind_of, entries_of, record_by_id}
+use Rattle.spec_type_table.specs.Records.{entries_of, record_by_id}
 use Rattle.spec_type_table.specs.Table.{type_of, btf_of}
 use Rattle.spec_type_table.specs.Nodes.{node_is, member_ids, param_ids}
-use Rattle.spec_type_table.proofs.KindLaws.{by_kind, type_0, type_1, type_2, type_3, type_6, type_7, type_8, type_9, type_10, type_11, type_12, type_13, type_14, type_15, type_16, type_17, type_18, type_19, type_none, node_composite}
 use Rattle.spec_type_table.proofs.Frame.{field_other}
-use Rattle.c_dumper_dependency_order.proofs.order_state.Laws.{type_at, node_at, named_at, node_is_lem}
+use Rattle.c_dumper_dependency_order.proofs.order_state.Laws.{type_at, node_at, named_at, node_is_lem, comp_is}
 use Rattle.spec_session.specs.emission.Sheet.{Sheet, work_machine}
 use Rattle.spec_session.proofs.emission.Frame.{table_emark}
 use Rattle.spec_c_dumper.specs.origins.Causes.{Entry, Noted, cause_at}
@@ -50,36 +48,6 @@ to_loop_type l t e = omega arith
 pub to_type_new : (l t : ℕ) → 4 * l ≡ t → (l ≡ 0 → ⊥) → 4 * (l - 1) + 3 < t
 to_type_new l t e z = omega arith
 
--- ---- the node of a composite, by its record
-comp_node : (b : TypeTable) (s : List ℕ) (t : Record) (k : ℕ) → kind_of t.info ≡ k → is_comp (node_of (type_of b s t)) ≡ true → node_is b s (code.Composite (entries_of t)) ≡ node_of (type_of b s t)
-comp_node b s t =
-    by_kind
-    (λ k. kind_of t.info ≡ k → is_comp (node_of (type_of b s t)) ≡ true → node_is b s (code.Composite (entries_of t)) ≡ node_of (type_of b s t))
-    (λ e h. absurd (no (sym (ap (λ (y : BtfType). is_comp (node_of y)) (type_0 b s t e)) ∙ h)))
-    (λ e h. absurd (no (sym (ap (λ (y : BtfType). is_comp (node_of y)) (type_1 b s t e)) ∙ h)))
-    (λ e h. absurd (no (sym (ap (λ (y : BtfType). is_comp (node_of y)) (type_2 b s t e)) ∙ h)))
-    (λ e h. absurd (no (sym (ap (λ (y : BtfType). is_comp (node_of y)) (type_3 b s t e)) ∙ h)))
-    (λ e h. node_composite b s t (kind_of t.info) refl (entries_of t) refl (omega arith) (omega arith) (λ q. omega arith) (λ q. omega arith))
-    (λ e h. node_composite b s t (kind_of t.info) refl (entries_of t) refl (omega arith) (omega arith) (λ q. omega arith) (λ q. omega arith))
-    (λ e h. absurd (no (sym (ap (λ (y : BtfType). is_comp (node_of y)) (type_6 b s t e)) ∙ h)))
-    (λ e h. absurd (no (sym (ap (λ (y : BtfType). is_comp (node_of y)) (type_7 b s t e)) ∙ h)))
-    (λ e h. absurd (no (sym (ap (λ (y : BtfType). is_comp (node_of y)) (type_8 b s t e)) ∙ h)))
-    (λ e h. absurd (no (sym (ap (λ (y : BtfType). is_comp (node_of y)) (type_9 b s t e)) ∙ h)))
-    (λ e h. absurd (no (sym (ap (λ (y : BtfType). is_comp (node_of y)) (type_10 b s t e)) ∙ h)))
-    (λ e h. absurd (no (sym (ap (λ (y : BtfType). is_comp (node_of y)) (type_11 b s t e)) ∙ h)))
-    (λ e h. absurd (no (sym (ap (λ (y : BtfType). is_comp (node_of y)) (type_12 b s t e)) ∙ h)))
-    (λ e h. absurd (no (sym (ap (λ (y : BtfType). is_comp (node_of y)) (type_13 b s t e)) ∙ h)))
-    (λ e h. absurd (no (sym (ap (λ (y : BtfType). is_comp (node_of y)) (type_14 b s t e)) ∙ h)))
-    (λ e h. absurd (no (sym (ap (λ (y : BtfType). is_comp (node_of y)) (type_15 b s t e)) ∙ h)))
-    (λ e h. absurd (no (sym (ap (λ (y : BtfType). is_comp (node_of y)) (type_16 b s t e)) ∙ h)))
-    (λ e h. absurd (no (sym (ap (λ (y : BtfType). is_comp (node_of y)) (type_17 b s t e)) ∙ h)))
-    (λ e h. absurd (no (sym (ap (λ (y : BtfType). is_comp (node_of y)) (type_18 b s t e)) ∙ h)))
-    (λ e h. absurd (no (sym (ap (λ (y : BtfType). is_comp (node_of y)) (type_19 b s t e)) ∙ h)))
-    (λ k l e h. absurd (no (sym (ap (λ (y : BtfType). is_comp (node_of y)) (type_none b s t (subst (λ (i : ℕ). 20 ≤ i) (sym e) l))) ∙ h)))
-  where
-    no : false ≡ true → ⊥
-    no e = true≢false (sym e)
-
 -- ---- emit_new
 module _ (b : TypeTable) (s : List ℕ) (lent : Lent) (why : ℕ → Entry) (n : ℕ) (p : Pen) (tx w li : List ℕ) (id cont left : ℕ) (t : Record) (et : t ≡ record_by_id b s w id) (nd : Code) (en : node_is b s nd ≡ node_of (type_of b s t)) (x : Out (Noted Sheet)) where
   abbrev Bn : Rules
@@ -102,24 +70,24 @@ module _ (b : TypeTable) (s : List ℕ) (lent : Lent) (why : ℕ → Entry) (n :
   new_none (inl e) ex = by_node code.Ignored e (λ m. wrote m) (ex ∙ sym (obind_wrote (noted_out n (Ok p) tx w li))) (λ m. refl)
   new_none (inr e) ex = by_node code.Plain e (λ m. wrote m) (ex ∙ sym (obind_wrote (noted_out n (Ok p) tx w li))) (λ m. refl)
 
-  pub new_listed : (fwd : Bool) → nd ≡ code.Listed fwd → x ≡ obind (noted_out n (Ok p) tx w li) (λ m. leaf_n b Bn lent why fwd cont m id) → Goal
+  pub new_enum : nd ≡ code.Enum → x ≡ obind (noted_out n (Ok p) tx w li) (λ m. leaf_n b Bn lent why false cont m id) → Goal
   unfolding node_is begin leaf_n
-  new_listed fwd e ex = by_node (code.Listed fwd) e (λ m. leaf_n b Bn lent why fwd cont m id) ex (λ m. refl)
+  new_enum e ex = by_node code.Enum e (λ m. leaf_n b Bn lent why false cont m id) ex (λ m. refl)
 
-  pub new_on : (y : ℕ) → ((a : Bool) × (nd ≡ code.Through a y)) ⊎ (nd ≡ code.Ptr y) → x ≡ obind (noted_out n (Ok p) tx w li) (λ m. emit_n b Bn lent why left cont m y) → Goal
+  pub new_fwd : nd ≡ code.Fwd → x ≡ obind (noted_out n (Ok p) tx w li) (λ m. leaf_n b Bn lent why true cont m id) → Goal
+  unfolding node_is begin leaf_n
+  new_fwd e ex = by_node code.Fwd e (λ m. leaf_n b Bn lent why true cont m id) ex (λ m. refl)
+
+  pub new_on : (y : ℕ) → (nd ≡ code.Array y) ⊎ ((nd ≡ code.Through y) ⊎ (nd ≡ code.Ptr y)) → x ≡ obind (noted_out n (Ok p) tx w li) (λ m. emit_n b Bn lent why left cont m y) → Goal
   unfolding node_is begin emit_n
-  new_on y (inl (a, e)) ex = by_node (code.Through a y) e (λ m. emit_n b Bn lent why left cont m y) ex (λ m. refl)
-  new_on y (inr e) ex = by_node (code.Ptr y) e (λ m. emit_n b Bn lent why left cont m y) ex (λ m. refl)
-
-  -- the node of a composite has the members of its record
-  comp_is : (es : Entries) → nd ≡ code.Composite es → node_is b s (code.Composite (entries_of t)) ≡ node_of (type_of b s t)
-  unfolding node_is
-  comp_is es e = comp_node b s t (kind_of t.info) refl (sym (ap is_comp (ap (node_is b s) (sym e) ∙ en)))
+  new_on y (inl e) ex = by_node (code.Array y) e (λ m. emit_n b Bn lent why left cont m y) ex (λ m. refl)
+  new_on y (inr (inl e)) ex = by_node (code.Through y) e (λ m. emit_n b Bn lent why left cont m y) ex (λ m. refl)
+  new_on y (inr (inr e)) ex = by_node (code.Ptr y) e (λ m. emit_n b Bn lent why left cont m y) ex (λ m. refl)
 
   pub new_composite : (es : Entries) → nd ≡ code.Composite es → x ≡ obind (noted_out n (Ok p) tx w li) (λ m. composite_n b Bn lent why left cont (member_ids b s (entries_of t)) m id) → Goal
   unfolding node_is composite_n new_n
   new_composite es e ex = ex ∙ obind_same (noted_out n (Ok p) tx w li) (λ m. composite_n b Bn lent why left cont (member_ids b s (entries_of t)) m id) (λ m. new_n b Bn lent why left cont m id)
-      (λ m. ap (begin (mach_n b Bn lent why cont) (table_of Bn) rec m id cont (is_zero cont)) (comp_is es e ∙ sym (node_at b s w id t et)))
+      (λ m. ap (begin (mach_n b Bn lent why cont) (table_of Bn) rec m id cont (is_zero cont)) (comp_is b s t nd en es e ∙ sym (node_at b s w id t et)))
 
   pub new_proto : (y : ℕ) (es : Entries) → nd ≡ code.Proto y es → (a : Penned) (t₁ w₁ l₁ : List ℕ) (lent₁ : Lent) → lent₁ ≡ lent → noted_out n a t₁ w₁ l₁ ≡ obind (noted_out n (Ok p) tx w li) (λ m. emit_n b Bn lent why left cont m y)
       → x ≡ obind (noted_out n a t₁ w₁ l₁) (λ m. eeach (emit_n b (btf_of b s w₁) lent₁ why left cont) (param_ids b s es) m) → Goal

@@ -6,11 +6,11 @@ use mathlib.Core.Bool.{Bool, true, false, not, ◌&&◌, ◌||◌, true≢false}
 use mathlib.Core.Logic.{◌⊎◌, inl, inr}
 use native.Mathlib.Omega.{arith}
 use lib.Dec.{eqb}
-use borrow.Author.Tests.{eqb-true, eqb-false, eq-eqb, ne_eqb}
+use borrow.Author.Tests.{eqb-false, eq-eqb, ne_eqb}
 use Rattle.std.specs.Prelude.{Ok, Err, IsErrAnd}
 use Rattle.spec_bytes.specs.declared.refusal.Refusal.{Refusal}
 use Rattle.spec_bytes.specs.declared.refusal.Refusal.TheVariants.{TooDeep, Cycle, NamelessTypedef}
-use Rattle.spec_c_dumper.specs.rules.Order.{Node, ignored, plain, listed, through, ptr, tdef, proto, comp, Mark, new, busy, done}
+use Rattle.spec_c_dumper.specs.rules.Order.{Node, ignored, plain, listed, through, ptr, tdef, proto, comp, Mark, new, busy, done, is_done}
 use Rattle.spec_c_dumper.specs.rules.Machine.{Out, wrote, is_zero, obind, eeach, once, mention, again, leaf, allowed, look}
 use Rattle.spec_c_dumper.specs.rules.Types.{BtfType, Btf as Rules, node_of, is_named, member_types, table_of}
 use Rattle.spec_c_dumper.specs.alignment_once.Writers.{definition_once, forward_once}
@@ -25,15 +25,11 @@ use Rattle.spec_type_table.specs.declared.kind.Kind.TheVariants as kinds
 use Rattle.spec_type_table.specs.Kinds.{kind_named}
 use Rattle.spec_type_table.proofs.KindTypes.{type_as, type_is}
 use Rattle.c_dumper_dependency_order.specs.order_state.Work.{mark_of}
+use Rattle.c_dumper_dependency_order.proofs.begin.Laws.{done_yes}
 use Rattle.c_dumper_dependency_order.proofs.order_state.Laws.{type_at, node_at, named_at}
 use Rattle.spec_session.specs.emission.Sheet.{Sheet, line_in, work_machine}
 use Rattle.spec_c_dumper.specs.origins.Causes.{Entry, entry, Noted, up_to, line, cause_at, shows_in}
 use Rattle.c_dumper_emit.specs.declared.entries.Pen.{Pen}
-use Rattle.c_dumper_emit.specs.declared.steps.EmitState.{EmitState}
-use Rattle.c_dumper_emit.specs.declared.steps.EmitState.TheVariants.{NotEmitted, Emitting, Emitted}
-use Rattle.c_dumper_emit.specs.contracts.steps.EmitState.{the_type}
-use denote.Enum.Bare.{sameb}
-use Rattle.c_dumper_emit.specs.steps.States.{emit_state_of}
 use Rattle.c_dumper_emit.specs.entries.Noted.{Lent, noted_out, line_n, shown_of, mach_n, emit_n, new_n, again_n, leaf_n, has_n, once_n, mention_n, state_n}
 use Rattle.c_dumper_emit.proofs.entries.Frame.{Stays, stays_then, table_emit}
 use Rattle.c_dumper_emit.proofs.entries.Laws.{Penned, paper, with_n, ended, obind_then, obind_wrote, obind_same, then, at_pen, same_sheet, stop_sheet, work_last, same_table, entry_stays}
@@ -162,24 +158,32 @@ module _ (b : TypeTable) (s : List ℕ) (lent : Lent) (why : ℕ → Entry) (n :
           go (inr e) = kind_node k ek kinds.Union e ∙ last (member_types (members_of b s t))
 
       module _ (k : Kind) (ek : k ≡ kind_named (kind_of t.info)) where
-        pub again_self : (k ≡ kinds.Struct) ⊎ (k ≡ kinds.Union) → id ≡ cont → Again (noted_out n (Ok p) tx w li)
-        unfolding again_n mention
-        again_self g e = same_sheet n p tx w li (λ m. again_n b B lent why cont m id) (comp_at k ek g ∙ ap (λ (f : Bool). mention (mach_n b B lent why cont) (table_of B) f ((table_of B).named id) id (paper n p tx w li)) (eq-eqb id cont e))
+        module _ (g : (k ≡ kinds.Struct) ⊎ (k ≡ kinds.Union)) (nm : Bool) (en : nm ≡ is_named (type_of b s t)) where
+          mention_is : (v f : Bool) → eqb id cont ≡ v → nm ≡ f → again (mach_n b B lent why cont) (table_of B) (paper n p tx w li) id cont ((table_of B).node id) ≡ mention (mach_n b B lent why cont) (table_of B) v f id (paper n p tx w li)
+          mention_is v f ev ef = comp_at k ek g ∙ (λ i. mention (mach_n b B lent why cont) (table_of B) (ev i) ((named_at b s w id t et ∙ sym en ∙ ef) i) id (paper n p tx w li))
 
-        module _ (g : (k ≡ kinds.Struct) ⊎ (k ≡ kinds.Union)) (ne : id ≡ cont → ⊥) (nm : Bool) (en : nm ≡ is_named (type_of b s t)) where
-          named_is : (f : Bool) → nm ≡ f → again (mach_n b B lent why cont) (table_of B) (paper n p tx w li) id cont ((table_of B).node id) ≡ mention (mach_n b B lent why cont) (table_of B) false f id (paper n p tx w li)
-          named_is f e = comp_at k ek g ∙ ap (λ (f : Bool). mention (mach_n b B lent why cont) (table_of B) f ((table_of B).named id) id (paper n p tx w li)) (ne_eqb id cont ne)
-              ∙ ap (λ (f : Bool). mention (mach_n b B lent why cont) (table_of B) false f id (paper n p tx w li)) (named_at b s w id t et ∙ sym en ∙ e)
-
-          pub again_nameless : nm ≡ false → Again (noted_out n (Err Cycle) tx w li)
+          pub again_nameless : (not (eqb id cont) && not nm) ≡ true → Again (noted_out n (Err Cycle) tx w li)
           unfolding again_n mention
-          again_nameless e = stop_sheet n p tx w li Cycle (λ m. again_n b B lent why cont m id) (named_is false e)
+          again_nameless h = go (eqb id cont) nm refl refl h
+            where
+              go : (v f : Bool) → eqb id cont ≡ v → nm ≡ f → (not v && not f) ≡ true → Again (noted_out n (Err Cycle) tx w li)
+              go false false ev ef z = stop_sheet n p tx w li Cycle (λ m. again_n b B lent why cont m id) (mention_is false false ev ef)
+              go false true ev ef z = absurd (true≢false (sym z))
+              go true f ev ef z = absurd (true≢false (sym z))
 
-          pub again_named : nm ≡ true → (z : Entry) → z ≡ entry id 2 cont → (x : Out (Noted Sheet)) → x ≡ obind (noted_out n (Ok p) tx w li) (λ m. once_n b B lent (type_of b s t) z (has_n b B lent m id) m id) → Again x
-          unfolding again_n mention has_n
-          again_named e z ez x ex = ex ∙ ap (λ (y : Entry). obind (noted_out n (Ok p) tx w li) (λ m. once_n b B lent (type_of b s t) y (has_n b B lent m id) m id)) ez ∙ at_pen n p tx w li (λ m. once_n b B lent (type_of b s t) (entry id 2 cont) (has_n b B lent m id) m id) (λ m. again_n b B lent why cont m id)
-              (once_fwd b B lent why cont (type_of b s t) (paper n p tx w li) id ((mach_n b B lent why cont).has_fwd (paper n p tx w li) id) (sym (type_at b s w id t et))
-              ∙ ap (λ (f : Bool). once (mach_n b B lent why cont) (table_of B) (mach_n b B lent why cont).fwd_line id f (paper n p tx w li)) (fwd_is ∙ hf) ∙ sym (named_is true e))
+          pub again_mention : (not (eqb id cont) && not nm) ≡ false → (x : Out (Noted Sheet)) → x ≡ obind (noted_out n (Ok p) tx w li) (λ m. mention_n b B lent (type_of b s t) cont m id) → Again x
+          unfolding again_n mention mention_n has_n once_n once
+          again_mention h x ex = ex ∙ at_pen n p tx w li (λ m. mention_n b B lent (type_of b s t) cont m id) (λ m. again_n b B lent why cont m id) (said ∙ go (eqb id cont) nm refl refl h)
+            where
+              said : mention_n b B lent (type_of b s t) cont (paper n p tx w li) id ≡ once_n b B lent (type_of b s t) (entry id 2 cont) (eqb id cont) (paper n p tx w li) id
+              said = ap (λ (v : Bool). once_n b B lent (type_of b s t) (entry id 2 cont) (v || eqb id cont) (paper n p tx w li) id) (fwd_is ∙ hf)
+
+              go : (v f : Bool) → eqb id cont ≡ v → nm ≡ f → (not v && not f) ≡ false
+                  → once_n b B lent (type_of b s t) (entry id 2 cont) (eqb id cont) (paper n p tx w li) id ≡ again (mach_n b B lent why cont) (table_of B) (paper n p tx w li) id cont ((table_of B).node id)
+              go true f ev ef z = ap (λ (v : Bool). once_n b B lent (type_of b s t) (entry id 2 cont) v (paper n p tx w li) id) ev ∙ sym (mention_is true f ev ef)
+              go false true ev ef z = ap (λ (v : Bool). once_n b B lent (type_of b s t) (entry id 2 cont) v (paper n p tx w li) id) ev
+                  ∙ once_fwd b B lent why cont (type_of b s t) (paper n p tx w li) id false (sym (type_at b s w id t et)) ∙ sym (mention_is false true ev ef)
+              go false false ev ef z = absurd (true≢false z)
 
         pub again_typedef : k ≡ kinds.Typedef → (e : Entry) → e ≡ cause_at 3 (why id) id cont → (x : Out (Noted Sheet)) → x ≡ obind (noted_out n (Ok p) tx w li) (λ m. once_n b B lent (type_of b s t) e (has_n b B lent m id) m id) → Again x
         unfolding again_n again has_n
@@ -190,44 +194,6 @@ module _ (b : TypeTable) (s : List ℕ) (lent : Lent) (why : ℕ → Entry) (n :
         pub again_other : (k ≡ kinds.Struct → ⊥) → (k ≡ kinds.Union → ⊥) → (k ≡ kinds.Typedef → ⊥) → Again (noted_out n (Ok p) tx w li)
         unfolding again_n
         again_other n₁ n₂ n₃ = same_sheet n p tx w li (λ m. again_n b B lent why cont m id) (kind_node k ek k refl ∙ again_kind b s B lent why (paper n p tx w li) id cont t k n₁ n₂ n₃)
-
--- ---- emit states
-mark_as : EmitState → Mark
-mark_as NotEmitted = new
-mark_as Emitting = busy
-mark_as Emitted = done
-
-marked : (k : ℕ) → mark_of k ≡ mark_as (emit_state_of k)
-unfolding mark_of mark_as emit_state_of
-marked k = go (eqb k 2) (eqb k 1)
-  where
-    go : (x y : Bool) → ◌≡◌ {A = Mark} (elim x as (λ z. Mark) [ true ↦ done | false ↦ elim y as (λ z. Mark) [ true ↦ busy | false ↦ new ] ]) (mark_as (elim x as (λ z. EmitState) [ true ↦ Emitted | false ↦ elim y as (λ z. EmitState) [ true ↦ Emitting | false ↦ NotEmitted ] ]))
-    go true y = refl
-    go false true = refl
-    go false false = refl
-
--- what get_emit_state returns
-pub state_2 : (k : ℕ) → k ≡ 2 → Emitted ≡ emit_state_of k
-unfolding emit_state_of
-state_2 k e = rw e
-
-pub state_1 : (k : ℕ) → k ≡ 1 → Emitting ≡ emit_state_of k
-unfolding emit_state_of
-state_1 k e = rw e
-
-pub state_other : (k : ℕ) → (k ≡ 2 → ⊥) → (k ≡ 1 → ⊥) → NotEmitted ≡ emit_state_of k
-unfolding emit_state_of
-state_other k n m = rw (ne_eqb k 2 n, emit_state_of, ne_eqb k 1 m)
-
--- the test that an id's state is "emitted"
-pub emitted_is : (k : ℕ) (s : EmitState) → s ≡ emit_state_of k → (r : Bool) → r ≡ sameb the_type s Emitted → r ≡ eqb k 2
-unfolding emit_state_of
-emitted_is k s es r er = er ∙ ap (λ (z : EmitState). sameb the_type z Emitted) es ∙ go (eqb k 2) (eqb k 1)
-  where
-    go : (x y : Bool) → sameb the_type (elim x as (λ z. EmitState) [ true ↦ Emitted | false ↦ elim y as (λ z. EmitState) [ true ↦ Emitting | false ↦ NotEmitted ] ]) Emitted ≡ x
-    go true y = refl
-    go false true = refl
-    go false false = refl
 
 -- ---- emit_type
 pub zero_is : (c : ℕ) → is_zero c ≡ eqb c 0
@@ -248,26 +214,26 @@ module _ (b : TypeTable) (s : List ℕ) (lent : Lent) (why : ℕ → Entry) (n :
   unfolding emit_n
   too_deep e = stop_sheet n p tx w li TooDeep (λ m. emit_n b Bt lent why left cont m id) (ap (λ (l : ℕ). em l (paper n p tx w li) id cont) e)
 
-  module _ (nz : left ≡ 0 → ⊥) (st : EmitState) (es : st ≡ emit_state_of (get_field w id 13)) where
-    unroll : (k : EmitState) → st ≡ k → em left (paper n p tx w li) id cont ≡ look (mach_n b Bt lent why cont) (table_of Bt) (λ m' y c. em (left - 1) m' y c) (paper n p tx w li) id cont (mark_as k)
+  module _ (nz : left ≡ 0 → ⊥) where
+    unroll : (k : Mark) → mark_of (get_field w id 13) ≡ k → em left (paper n p tx w li) id cont ≡ look (mach_n b Bt lent why cont) (table_of Bt) (λ m' y c. em (left - 1) m' y c) (paper n p tx w li) id cont k
     unfolding emit_n work_machine
     unroll k e =
         let l : left ≡ suc (left - 1) = omega arith in
         ap (λ (i : ℕ). em i (paper n p tx w li) id cont) l
-        ∙ ap (look (mach_n b Bt lent why cont) (table_of Bt) (λ m' y c. em (left - 1) m' y c) (paper n p tx w li) id cont) (marked (get_field w id 13) ∙ ap mark_as (sym es ∙ e))
+        ∙ ap (look (mach_n b Bt lent why cont) (table_of Bt) (λ m' y c. em (left - 1) m' y c) (paper n p tx w li) id cont) e
 
-    pub emit_done : st ≡ Emitted → Emits (noted_out n (Ok p) tx w li)
-    unfolding emit_n look mark_as
-    emit_done e = same_sheet n p tx w li (λ m. emit_n b Bt lent why left cont m id) (unroll Emitted e)
+    pub emit_done : mark_of (get_field w id 13) ≡ done → Emits (noted_out n (Ok p) tx w li)
+    unfolding emit_n look
+    emit_done e = same_sheet n p tx w li (λ m. emit_n b Bt lent why left cont m id) (unroll done e)
 
-    pub emit_busy : st ≡ Emitting → (x : Out (Noted Sheet)) → x ≡ obind (noted_out n (Ok p) tx w li) (λ m. again_n b Bt lent why cont m id) → Emits x
-    unfolding emit_n look again_n mark_as
-    emit_busy e x ex = ex ∙ at_pen n p tx w li (λ m. again_n b Bt lent why cont m id) (λ m. emit_n b Bt lent why left cont m id) (sym (unroll Emitting e))
+    pub emit_busy : mark_of (get_field w id 13) ≡ busy → (x : Out (Noted Sheet)) → x ≡ obind (noted_out n (Ok p) tx w li) (λ m. again_n b Bt lent why cont m id) → Emits x
+    unfolding emit_n look again_n
+    emit_busy e x ex = ex ∙ at_pen n p tx w li (λ m. again_n b Bt lent why cont m id) (λ m. emit_n b Bt lent why left cont m id) (sym (unroll busy e))
 
-    module _ (ne : st ≡ NotEmitted) (t : Record) (et : t ≡ record_by_id b s w id) (nm : Bool) (en : nm ≡ is_named (type_of b s t)) where
+    module _ (ne : mark_of (get_field w id 13) ≡ new) (t : Record) (et : t ≡ record_by_id b s w id) (nm : Bool) (en : nm ≡ is_named (type_of b s t)) where
       gate_is : (f : Bool) → (eqb cont 0 && not nm) ≡ f → em left (paper n p tx w li) id cont ≡ allowed (mach_n b Bt lent why cont) (table_of Bt) (λ m' y c. em (left - 1) m' y c) (paper n p tx w li) id cont f
-      unfolding look mark_as
-      gate_is f e = unroll NotEmitted ne
+      unfolding look
+      gate_is f e = unroll new ne
           ∙ ap (λ (g : Bool). allowed (mach_n b Bt lent why cont) (table_of Bt) (λ m' y c. em (left - 1) m' y c) (paper n p tx w li) id cont (g && not ((table_of Bt).named id))) (zero_is cont)
           ∙ ap (λ (g : Bool). allowed (mach_n b Bt lent why cont) (table_of Bt) (λ m' y c. em (left - 1) m' y c) (paper n p tx w li) id cont (eqb cont 0 && not g)) (named_at b s w id t et ∙ sym en)
           ∙ ap (allowed (mach_n b Bt lent why cont) (table_of Bt) (λ m' y c. em (left - 1) m' y c) (paper n p tx w li) id cont) e
@@ -280,9 +246,9 @@ module _ (b : TypeTable) (s : List ℕ) (lent : Lent) (why : ℕ → Entry) (n :
       unfolding emit_n allowed new_n
       emit_fresh e x ex = ex ∙ at_pen n p tx w li (λ m. new_n b Bt lent why (left - 1) cont m id) (λ m. emit_n b Bt lent why left cont m id) (sym (gate_is false e))
 
-  -- what is_done tells
-  pub emit_skips : (f : Bool) → f ≡ (not (eqb left 0) && eqb (get_field w id 13) 2) → f ≡ true → Emits (noted_out n (Ok p) tx w li)
-  emit_skips f e t = emit_done (eqb-false left 0 (first (eqb left 0) (eqb (get_field w id 13) 2) (sym e ∙ t))) _ refl (sym (state_2 (get_field w id 13) (eqb-true (get_field w id 13) 2 (second (eqb left 0) (eqb (get_field w id 13) 2) (sym e ∙ t)))))
+  -- what is_emitted tells
+  pub emit_skips : (f : Bool) → f ≡ (not (eqb left 0) && is_done (mark_of (get_field w id 13))) → f ≡ true → Emits (noted_out n (Ok p) tx w li)
+  emit_skips f e t = emit_done (eqb-false left 0 (first (eqb left 0) (is_done (mark_of (get_field w id 13))) (sym e ∙ t))) (done_yes (mark_of (get_field w id 13)) (second (eqb left 0) (is_done (mark_of (get_field w id 13))) (sym e ∙ t)))
     where
       first : (x y : Bool) → (not x && y) ≡ true → x ≡ false
       first true y h = sym h
@@ -346,8 +312,8 @@ module _ (b : TypeTable) (s : List ℕ) (lent : Lent) (why : ℕ → Entry) (w�
         table = subst (Stays (btf_of b s) w₀) (sym call₀) (stays_then (btf_of b s) w₀ (noted_out n (Ok p) tx w li) (λ m. emit_n b (btf_of b s w₀) lent why left cont m (id k)) inv.table (λ m. table_emit b s (btf_of b s w₀) lent why left m (id k) cont));
       }
 
-    -- an id that is_done passes over
-    pub rest_skip : (y : ℕ) → y ≡ id k → (f : Bool) → f ≡ (not (eqb left 0) && eqb (get_field w y 13) 2) → f ≡ true → k < vlen → Rest b s lent why w₀ left cont id n p₀ tx₀ l₀ vlen (Ok p) tx w li (k + 1)
+    -- an id that is_emitted passes over
+    pub rest_skip : (y : ℕ) → y ≡ id k → (f : Bool) → f ≡ (not (eqb left 0) && is_done (mark_of (get_field w y 13))) → f ≡ true → k < vlen → Rest b s lent why w₀ left cont id n p₀ tx₀ l₀ vlen (Ok p) tx w li (k + 1)
     rest_skip y ey f e t h = rest_turn y ey lent refl (Ok p) tx w li (emit_skips b s lent why n p tx w li y cont left f e t) h
 
     pub rest_end : vlen ≤ k → noted_out n (Ok p) tx w li ≡ obind (noted_out n (Ok p₀) tx₀ w₀ l₀) (λ m. eeach (emit_n b (btf_of b s w₀) lent why left cont) (from id 0 vlen) m)

@@ -16,7 +16,10 @@ use Rattle.spec_type_table.specs.Numbers.{number_at}
 use Rattle.spec_type_table.specs.Names.{str_at}
 use Rattle.spec_type_table.specs.Table.{work_naming, type_version_in, value_version_in, enumerator_of}
 use Rattle.c_dumper_name_versions.specs.declared.names.versions.Name.{Name}
-use Rattle.c_dumper_name_versions.specs.names.Spelling.{name_text}
+use Rattle.c_dumper_name_versions.specs.names.Spelling.{number_of, numbered, name_text}
+use Rattle.c_dumper_name_versions.proofs.names.Spellings.{number_none, numbered_as}
+use Rattle.std.specs.Prelude.{Option, None}
+use native.Mathlib.Omega.{arith}
 
 put_name_of : (a a' w w' : List ℕ) → put a w ≡ put a' w' → a ≡ a'
 unfolding put said_text bytes
@@ -55,16 +58,18 @@ module _ (b : TypeTable) (space : Space) (id : ℕ) (name w : List ℕ) where
   type_empty x h e = ap (λ (y : List ℕ). put y w) e ∙ sym (no_name b space id name w put h)
 
   -- a type that has a version
-  pub type_held : (v : ℕ) → is_empty name ≡ false → (v ≡ 0 → ⊥) → v ≡ get_field w id 4 → put (spelled name v) w ≡ resolve_type_name (work_naming b) space id name put w
-  type_held v h n e =
-      ap (λ (y : Resolved (List ℕ)). put (spelled name y.version) y.names) (version_held b.types id w v n e) ∙ sym (some_name b space id name w put h)
+  pub type_held : (v : ℕ) (x : List ℕ) → is_empty name ≡ false → (v ≡ 0 → ⊥) → v ≡ get_field w id 4 → x ≡ spelled name v → put x w ≡ resolve_type_name (work_naming b) space id name put w
+  type_held v x h n e ex =
+      ap (λ (y : List ℕ). put y w) ex
+      ∙ ap (λ (y : Resolved (List ℕ)). put (spelled name y.version) y.names) (version_held b.types id w v n e) ∙ sym (some_name b space id name w put h)
 
   -- one more holder
-  pub type_counted : (v n : ℕ) (w₁ w₂ : List ℕ) → is_empty name ≡ false → v ≡ 0 → v ≡ get_field w id 4
-      → n ≡ number_at b.types w id → w₁ ≡ count_raised (class_p b.types) (count_p b.types) w id → w₂ ≡ put_field w₁ id 4 n
-      → put (spelled name n) w₂ ≡ resolve_type_name (work_naming b) space id name put w
-  type_counted v n w₁ w₂ h z e en e₁ e₂ =
-      ap (λ (y : Resolved (List ℕ)). put (spelled name y.version) y.names) (version_more b.types id w n w₁ w₂ (sym e ∙ z) en e₁ e₂)
+  pub type_counted : (v n : ℕ) (x w₁ w₂ : List ℕ) → is_empty name ≡ false → v ≡ 0 → v ≡ get_field w id 4
+      → n ≡ number_at b.types w id → w₁ ≡ count_raised (class_p b.types) (count_p b.types) w id → w₂ ≡ put_field w₁ id 4 n → x ≡ spelled name n
+      → put x w₂ ≡ resolve_type_name (work_naming b) space id name put w
+  type_counted v n x w₁ w₂ h z e en e₁ e₂ ex =
+      ap (λ (y : List ℕ). put y w₂) ex
+      ∙ ap (λ (y : Resolved (List ℕ)). put (spelled name y.version) y.names) (version_more b.types id w n w₁ w₂ (sym e ∙ z) en e₁ e₂)
       ∙ sym (some_name b space id name w put h)
 
 -- ---- resolve_name's
@@ -79,11 +84,11 @@ module _ (types e : ℕ) (w : List ℕ) where
   unfolding value_version_in
   no_version h = rw (le-ltb (types + e) 4294967296 h, value_version_in)
 
-  pub value_past : (off : ℕ) (n : Name) → n ≡ record { off = off; version = 0 } → 4294967296 ≤ types + e
-      → (n.off ≡ off) × (n.version ≡ (value_version_in types e w).version) × (w ≡ (value_version_in types e w).names)
+  pub value_past : (off : ℕ) (n : Name) → n ≡ record { off = off; number = None } → 4294967296 ≤ types + e
+      → (n.off ≡ off) × (n.number ≡ number_of (value_version_in types e w).version) × (w ≡ (value_version_in types e w).names)
   value_past off n en h = (
     ap (λ (x : Name). x.off) en,
-    ap (λ (x : Name). x.version) en ∙ ap (λ (x : Resolved (List ℕ)). x.version) (no_version h),
+    ap (λ (x : Name). x.number) en ∙ sym (number_none 0 (omega arith)) ∙ ap (λ (x : Resolved (List ℕ)). number_of x.version) (no_version h),
     ap (λ (x : Resolved (List ℕ)). x.names) (no_version h),
   )
 
@@ -111,17 +116,18 @@ put_type_name b space₀ space id name n w w' k t at r t'' w'' e o = o ∙ ap (p
 -- after resolve_name, of enumerator e, which is value i of enum id
 pub resolved_value : (b : TypeTable) (s : List ℕ) (id i e off : ℕ) (n : Name) (w w' : List ℕ) (k : List ℕ → Writer (List ℕ))
     → e ≡ enumerator_of w id i
-    → (n.off ≡ off) × (n.version ≡ (value_version_in b.types e w).version) × (w' ≡ (value_version_in b.types e w).names)
+    → (n.off ≡ off) × (n.number ≡ number_of (value_version_in b.types e w).version) × (w' ≡ (value_version_in b.types e w).names)
     → k (name_text b s n) w' ≡ resolve_name (work_naming b) id i (str_at b s off) k w
 unfolding resolve_name resolving work_naming
 resolved_value b s id i e off n w w' k ee q =
-    ap₂ (λ (x y : ℕ). k (spelled (str_at b s x) y) w') q.0 q.1
+    ap₂ (λ (x : ℕ) (y : Option ℕ). k (numbered (str_at b s x) y) w') q.0 q.1
+    ∙ ap (λ (x : List ℕ). k x w') (numbered_as (value_version_in b.types e w).version (str_at b s off))
     ∙ ap (λ (x : List ℕ). k (spelled (str_at b s off) (value_version_in b.types e w).version) x) q.2
     ∙ ap (λ (x : ℕ). k (spelled (str_at b s off) (value_version_in b.types x w).version) (value_version_in b.types x w).names) ee
 
 pub put_value_name : (b : TypeTable) (s : List ℕ) (id i e off : ℕ) (n : Name) (w w' : List ℕ) (k : List ℕ → Writer (List ℕ)) (t : List ℕ) (at r : Placed) (t'' w'' : List ℕ)
     → e ≡ enumerator_of w id i
-    → (n.off ≡ off) × (n.version ≡ (value_version_in b.types e w).version) × (w' ≡ (value_version_in b.types e w).names)
+    → (n.off ≡ off) × (n.number ≡ number_of (value_version_in b.types e w).version) × (w' ≡ (value_version_in b.types e w).names)
     → out_of r t'' w'' ≡ put_said t at (k (name_text b s n) w')
     → out_of r t'' w'' ≡ put_said t at (resolve_name (work_naming b) id i (str_at b s off) k w)
 put_value_name b s id i e off n w w' k t at r t'' w'' ee q o = o ∙ ap (put_said t at) (resolved_value b s id i e off n w w' k ee q)

@@ -208,6 +208,11 @@ module _ (b : TypeTable) (s w : List ℕ) (id comp : ℕ) (text₀ : List ℕ) (
   unfolding TagsLeft
   tags_stop text last x c r i e = put_ended text r c (whole (decl_tags (btf_of b s w) comp (tags_from i.0 b.types w last x))) e ∙ i.2
 
+  -- the tags of a component index, and of the same one
+  pub tags_as : (k : ℕ) (r : Placed) (u : List ℕ) → k ≡ comp → put_out r u ≡ put_text text₀ at (whole (decl_tags (btf_of b s w) k ((btf_of b s w).decl_tags id)))
+      → put_out r u ≡ put_text text₀ at (whole (decl_tags (btf_of b s w) comp ((btf_of b s w).decl_tags id)))
+  tags_as k r u e o = o ∙ ap (λ (j : ℕ). put_text text₀ at (whole (decl_tags (btf_of b s w) j ((btf_of b s w).decl_tags id)))) e
+
   -- without a first tag there is none
   pub tags_none : (x : ℕ) → x ≡ get_field w id 9 → x ≡ 0 → put_out at text₀ ≡ put_text text₀ at (whole (decl_tags (btf_of b s w) comp ((btf_of b s w).decl_tags id)))
   tags_none x e z = tags_end text₀ at 0 x (tags_start x e) (omega (arith, z))

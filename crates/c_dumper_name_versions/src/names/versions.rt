@@ -1,6 +1,6 @@
 // Names as they are printed. The first holder of a name prints it bare; the n-th, from 2 on, adds three underscores and n, or a
 // later number where opening listed numbers that are passed over.
-ghost use Rattle.std.specs.Prelude.{◌≡◌, Ok};
+ghost use Rattle.std.specs.Prelude.{◌≡◌, None, Ok};
 ghost use Rattle.spec_bytes.specs.text.Text.{whole};
 ghost use Rattle.spec_bytes.specs.text.Placed.{put_out, put_text};
 ghost use Rattle.spec_c_dumper.specs.rules.Writer.{put};
@@ -9,7 +9,7 @@ ghost use Rattle.spec_c_dumper.specs.rules.Names.{tag_space, resolve_type_name};
 ghost use Rattle.spec_c_dumper.specs.rules.Decl.{sep_name};
 ghost use Rattle.spec_type_table.specs.Names.{str_at};
 ghost use Rattle.spec_type_table.specs.Table.{work_naming, value_version_in};
-ghost use Rattle.c_dumper_name_versions.specs.names.Spelling.{name_text, name_after};
+ghost use Rattle.c_dumper_name_versions.specs.names.Spelling.{number_of, name_text, name_after};
 
 use base_bytes::put::{put_byte, put_decimal};
 use base_bytes::refusal::Refusal;
@@ -23,19 +23,31 @@ use spec_type_table::TypeTable;
 // From this holder of a name on, its number is printed.
 const SECOND: u32 = 2;
 
-// A name by its offset in the string area, and which of its holders prints it; 0 for a name that has no holders, which is printed as the
-// first one's. (With an Option its two bare cases, none and the first, would be asked for in two steps.)
+// A name by its offset in the string area, and the number that is printed after it, if any.
 #[derive(Clone, Copy)]
 pub struct Name {
     pub off: u32,
-    pub version: u32,
+    pub number: Option<u32>,
 }
 
-// A member's or a parameter's name, which has no version.
+// A name by itself, as a member's or a parameter's.
 pub fn bare(off: u32) -> Name
-    ensures { result ≡ record { off = off; version = 0 } }
+    ensures { result ≡ record { off = off; number = None } }
 {
-    Name { off, version: 0 }
+    Name { off, number: None }
+}
+
+// The name of its n-th holder.
+fn held(off: u32, n: u32) -> Name
+    ensures { result ≡ record { off = off; number = number_of n } }
+{
+    if n < SECOND {
+        return bare(off);
+    }
+    Name {
+        off,
+        number: Some(n),
+    }
 }
 
 // The name of type id, which it keeps; it counts as a holder when it is first asked for.
@@ -49,43 +61,44 @@ pub fn resolve_type_name(b: &Table, work: &mut [u8], id: u32, off: u32) -> Name
     }
     let version = get_field(work, id, cell::NAME_VERSION);
     if version != 0 {
-        return Name { off, version };
+        return held(off, version);
     }
     let n = get_number(work, b.head.types, id);
     put_field(work, id, cell::NAME_VERSION, n);
-    Name { off, version: n }
+    held(off, n)
 }
 
 // The name of enumerator e, counted over all enums: each time it is printed it is one more holder.
 pub fn resolve_name(b: TypeTable, work: &mut [u8], e: u32, off: u32) -> Name
-    ensures { (result.off ≡ off) × (result.version ≡ (value_version_in b.types e work.old).version)
+    ensures { (result.off ≡ off) × (result.number ≡ number_of (value_version_in b.types e work.old).version)
         × (work.new ≡ (value_version_in b.types e work.old).names) }
 {
     let Some(h) = b.types.checked_add(e) else {
         return bare(off);
     };
-    Name {
-        off,
-        version: get_number(work, b.types, h),
-    }
+    let n = get_number(work, b.types, h);
+    held(off, n)
 }
 
 pub fn put_name(b: &Table, text: &mut [u8], at: usize, name: Name) -> Result<usize, Refusal>
     ensures { put_out result text.new ≡ put_text text.old (Ok at) (whole (name_text b.now.head b.now.section.now name)) }
 {
     let a = b.put_str(text, at, name.off)?;
-    if name.version < SECOND {
+    let Some(n) = name.number else {
         return Ok(a);
-    }
+    };
     let c = put_word(text, a, Word::Underscores)?;
-    put_decimal(text, c, name.version as u64)
+    put_decimal(text, c, n as u64)
 }
 
 // Whether nothing is printed for a name.
 pub fn is_blank(b: &Table, name: Name) -> bool
     ensures { result ≡ is_empty (name_text b.now.head b.now.section.now name) }
 {
-    name.version < SECOND && b.is_empty(name.off)
+    match name.number {
+        None => b.is_empty(name.off),
+        Some(_) => false,
+    }
 }
 
 // sep and the name: a space before it, unless it is empty.

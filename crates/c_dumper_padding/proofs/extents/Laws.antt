@@ -216,9 +216,6 @@ module _ (B : Rules) (b : TypeTable) (s : List ℕ) (t : Record) (is p : Bool) w
       let z : vlen_of t.info - k ≡ 0 = omega arith in
       sym (i ∙ ap (λ (n : ℕ). extent_of B is p (extent_is x) (from (λ i. rule_member b s (member_of b s t i)) k n)) z)
 
-pub extent_as : (B : Rules) (is kind p : Bool) (ms : List Member) (r : Ask Extent) → is ≡ kind → r ≡ extent_of B is p no_extent ms → r ≡ extent_of B kind p no_extent ms
-extent_as B is kind p ms r e er = er ∙ ap (λ (z : Bool). extent_of B z p no_extent ms) e
-
 -- ---- size_fits
 module _ (is : Bool) (a last bits : ℕ) where
   pub size_struct : is ≡ true → leb last bits ≡ size_fits is a last bits
@@ -228,9 +225,6 @@ module _ (is : Bool) (a last bits : ℕ) where
   pub size_union : is ≡ false → (r : ℕ) → r ≡ round_up last (8 * a) → eqb bits r ≡ size_fits is a last bits
   unfolding size_fits
   size_union e r er = ap (eqb bits) er ∙ rw e
-
-pub size_as : (is kind : Bool) (a last bits : ℕ) (r : Bool) → is ≡ kind → r ≡ size_fits is a last bits → r ≡ size_fits kind a last bits
-size_as is kind a last bits r e er = er ∙ ap (λ (z : Bool). size_fits z a last bits) e
 
 -- ---- judged
 pub in_bits : (n : ℕ) (o : Option ℕ) → SomeIff o (n * 8 < 2 ^ 32) (n * 8) → (r : Answer) → r ≡ ok_or o Overflow → (bits : ℕ) → r ≡ Ok bits → (n * 8 < 4294967296) × (bits ≡ n * 8)

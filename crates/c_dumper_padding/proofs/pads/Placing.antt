@@ -6,6 +6,7 @@ use mathlib.Core.List.{List, [], ◌∷◌, ◌++◌}
 use native.Mathlib.Omega.{arith}
 use lib.Dec.{eqb, ltb}
 use borrow.Author.Tests.{lt-ltb, le-ltb, ne_eqb}
+use Rattle.std.proofs.Math.Bool.{and-false}
 use Rattle.spec_bytes.specs.text.Text.{whole, ascii}
 use Rattle.spec_bytes.specs.text.Placed.{Placed, put_out, put_text}
 use Rattle.spec_bytes.proofs.text.TextLaws.{put_seq, put_same, put_empty}
@@ -123,10 +124,6 @@ module _ (t₀ : List ℕ) (at : Placed) (a₀ : List ℕ) (placing : Bool) (ptr
             ∙ ap (λ (y : Pad). pad_line lvl y ++ pads lvl (pads_by placing ptr_sz (s + (pad_by placing ptr_sz s (end - s)).width) (end - s - (pad_by placing ptr_sz s (end - s)).width))) ex
             ∙ sym (ap (pads lvl) (by_next placing ptr_sz s (end - s) (omega arith)))
 
-and_none : (x : Bool) → (x && false) ≡ false
-and_none true = refl
-and_none false = refl
-
 -- ---- put_gap
 module _ (placing : Bool) (ptr_sz start bit_size gap a : ℕ) where
   natural : Bool → List Pad → List Pad
@@ -160,7 +157,7 @@ module _ (placing : Bool) (ptr_sz start bit_size gap a : ℕ) where
       gap_bits n = put_all (rw (ne_eqb bit_size 0 n))
 
       pub gap_wide : a * 8 ≤ gap → put_out r u ≡ put_text t at (whole (pads lvl (pads_before placing ptr_sz start bit_size gap a)))
-      gap_wide h = put_all (rw (le-ltb gap (a * 8) h) (and_none (eqb bit_size 0)))
+      gap_wide h = put_all (rw (le-ltb gap (a * 8) h) (and-false (eqb bit_size 0)))
 
 -- ---- put_own_line, emit_tail_padding
 pub lone_none : (i : ℕ) → (i ≡ 0 → ⊥) → [] ≡ lone_line i
@@ -182,7 +179,7 @@ module _ (placing : Bool) (ptr_sz : ℕ) (is_struct : Bool) (sz offset lvl i : �
 
   pub tail_union : is_struct ≡ false → [] ≡ tail_text lvl i (tail_pads placing ptr_sz is_struct sz offset)
   unfolding tail_pads
-  tail_union e = no_pads (rw (e, tail_pads, and_none placing))
+  tail_union e = no_pads (rw (e, tail_pads, and-false placing))
 
   module _ (ep : placing ≡ true) (es : is_struct ≡ true) where
     tail_is : tail_pads placing ptr_sz is_struct sz offset ≡ placed_pads (8 * sz - offset) ptr_sz offset (8 * sz - offset)

@@ -48,21 +48,21 @@ module _ (types : ℕ) (B : Rules) (is : Bool) (id sz : ℕ) (ms : List Member) 
     unfolding ask_in next
     by_refused c e = sym (by_asked ∙ ap (λ (y : Packed). next (last a) (ask_in y u)) e)
 
-    module _ (p : Bool) (e : q ≡ Ok p) (C : Rules) (e_c : C ≡ B) (r : Extents) (er : extents_of r ≡ extent_of C is p no_extent ms) where
+    module _ (p : Bool) (e : q ≡ Ok p) (C : Rules) (e_c : C ≡ B) (in_struct : Bool) (e_s : in_struct ≡ is) (r : Extents) (er : extents_of r ≡ extent_of C in_struct p no_extent ms) where
       by_packed : by_in types B is id sz ms a w ≡ forget (plainly (ask_then (extents_of r) (judged is sz a p)) u 0)
       unfolding ask_in next judged_by judged
       by_packed =
           by_asked ∙ ap (λ (y : Packed). next (last a) (ask_in y u)) e
-          ∙ ap (λ (y : Ask Extent). forget (plainly {M = List ℕ} (ask_then y (judged is sz a p)) u 0)) (sym (er ∙ ap (λ (D : Rules). extent_of D is p no_extent ms) e_c))
+          ∙ ap (λ (y : Ask Extent). forget (plainly {M = List ℕ} (ask_then y (judged is sz a p)) u 0)) (sym (er ∙ λ i. extent_of (e_c i) (e_s i) p no_extent ms))
 
       pub by_endless : (c : Refusal) → r ≡ Err c → ask_in {A = Bool} (Err c) u ≡ by_in types B is id sz ms a w
       unfolding ask_then ask_in extents_of plainly forget
       by_endless c f = sym (by_packed ∙ ap (λ (y : Extents). forget (plainly {M = List ℕ} (ask_then (extents_of y) (judged is sz a p)) u 0)) f)
 
-      pub by_judged : (x : Code) → r ≡ Ok x → (z : Packed) → ask_of z ≡ judged is sz a p (extent_is x) → ask_in z u ≡ by_in types B is id sz ms a w
+      pub by_judged : (x : Code) → r ≡ Ok x → (z : Packed) → ask_of z ≡ judged in_struct sz a p (extent_is x) → ask_in z u ≡ by_in types B is id sz ms a w
       unfolding ask_then extents_of
       by_judged x f z ez =
-          sym (by_packed ∙ ap (λ (y : Extents). forget (plainly {M = List ℕ} (ask_then (extents_of y) (judged is sz a p)) u 0)) f ∙ ap (λ (y : Ask Bool). forget (plainly {M = List ℕ} y u 0)) (sym ez) ∙ plain_packed u z)
+          sym (by_packed ∙ ap (λ (y : Extents). forget (plainly {M = List ℕ} (ask_then (extents_of y) (judged is sz a p)) u 0)) f ∙ ap (λ (y : Ask Bool). forget (plainly {M = List ℕ} y u 0)) (sym (ez ∙ ap (λ (k : Bool). judged k sz a p (extent_is x)) e_s)) ∙ plain_packed u z)
 
   abbrev rest : ℕ → Asking (List ℕ) Bool
   rest a m k = once_then (packed_once K B is id sz ms m k) (last a)

@@ -6,10 +6,15 @@ use native.Mathlib.Omega.{arith}
 use lib.Dec.{eqb, leb, leb-zero, leb-suc-zero, leb-suc-suc}
 use lib.Count.{count_trailing_zeros, under}
 use borrow.Author.Tests.{le-leb, lt-leb, eq-eqb, ne_eqb, eqb-true}
-use Rattle.spec_c_dumper.specs.rules.Layout.{suits, placed_pad}
-use Rattle.c_dumper_padding.specs.declared.units.Pad.{Pad as Code}
+use mathlib.Core.List.{List, [], ◌∷◌}
+use denote.Ref.{Bor}
+use Rattle.std.specs.Prelude.{Option, Some, None, drop, cond}
+use Rattle.std.specs.List.{find}
+use Rattle.std.specs.Option.{option_map}
+use Rattle.spec_c_dumper.specs.rules.Layout.{long, char, Pad, suits, placed_pad}
+use Rattle.c_dumper_padding.specs.declared.units.Unit.{Unit}
 use Rattle.c_dumper_padding.specs.declared.units.Unit.TheVariants.{Long, Int, Short, Char}
-use Rattle.c_dumper_padding.specs.units.Units.{pad_is, suits_by, placed_char}
+use Rattle.c_dumper_padding.specs.units.Units.{unit_of, pad_is, suits_by}
 
 -- ---- zeros at the end of a number
 both : (a b : Bool) → (a ≡ true → b ≡ true) → (b ≡ true → a ≡ true) → a ≡ b
@@ -89,60 +94,56 @@ module _ (start gap : ℕ) where
   unfolding suits_by suits
   suits_64 = ap (λ (x : Bool). x && leb 64 gap) (zeros_6 58 start)
 
-  -- ---- char_pad: what each test said
-  module _ (a : Bool) (ea : a ≡ suits_by start gap 3 8) where
-    pub char_8 : a ≡ true → pad_is (record { unit = Char; width = 8 }) ≡ placed_char start gap
-    unfolding pad_is placed_char
-    char_8 t = let e : suits start gap 8 ≡ true = sym suits_8 ∙ sym ea ∙ t in rw (e, placed_char)
+-- ---- the table of pads: a row is the logarithm of a width, the unit, and the width
+abbrev pub Row : Type 0
+Row = ℕ × Unit × ℕ
 
-    module _ (f : a ≡ false) (c : Bool) (ec : c ≡ suits_by start gap 2 4) where
-      pub char_4 : c ≡ true → pad_is (record { unit = Char; width = 4 }) ≡ placed_char start gap
-      unfolding pad_is placed_char
-      char_4 t = let e : suits start gap 8 ≡ false = sym suits_8 ∙ sym ea ∙ f in let g : suits start gap 4 ≡ true = sym suits_4 ∙ sym ec ∙ t in rw (e, placed_char, g)
+abbrev pub rows : List Row
+rows = (6, Long, 64) ∷ (5, Int, 32) ∷ (4, Short, 16) ∷ (3, Char, 8) ∷ (2, Char, 4) ∷ (1, Char, 2) ∷ []
 
-      module _ (h : c ≡ false) (d : Bool) (ed : d ≡ suits_by start gap 1 2) where
-        pub char_2 : d ≡ true → pad_is (record { unit = Char; width = 2 }) ≡ placed_char start gap
-        unfolding pad_is placed_char
-        char_2 t =
-            let e : suits start gap 8 ≡ false = sym suits_8 ∙ sym ea ∙ f in
-            let g : suits start gap 4 ≡ false = sym suits_4 ∙ sym ec ∙ h in
-            let i : suits start gap 2 ≡ true = sym suits_2 ∙ sym ed ∙ t in
-            rw (e, placed_char, g, i)
+pub chosen : Option Row → Pad
+chosen (Some p) = record { unit = unit_of p.1; width = p.2 }
+chosen None = record { unit = char; width = 1 }
 
-        pub char_1 : d ≡ false → pad_is (record { unit = Char; width = 1 }) ≡ placed_char start gap
-        unfolding pad_is placed_char
-        char_1 t =
-            let e : suits start gap 8 ≡ false = sym suits_8 ∙ sym ea ∙ f in
-            let g : suits start gap 4 ≡ false = sym suits_4 ∙ sym ec ∙ h in
-            let i : suits start gap 2 ≡ false = sym suits_2 ∙ sym ed ∙ t in
-            rw (e, placed_char, g, i)
+module _ (start gap : ℕ) where
+  abbrev pub suited : Row → Bool
+  suited p = suits_by start gap p.0 p.2
 
-  -- ---- narrow_pad
-  module _ (a : Bool) (ea : a ≡ suits_by start gap 5 32) where
-    pub narrow_32 : a ≡ true → pad_is (record { unit = Int; width = 32 }) ≡ placed_pad 0 start gap
-    unfolding pad_is placed_pad
-    narrow_32 t = let e : suits start gap 32 ≡ true = sym suits_32 ∙ sym ea ∙ t in rw (e, placed_pad)
+  one : (p : Row) (ps : List Row) (b : Bool) (x : Pad) → suited p ≡ b → chosen (find suited ps) ≡ x → chosen (find suited (p ∷ ps)) ≡ (elim b [ true ↦ record { unit = unit_of p.1; width = p.2 } | false ↦ x ])
+  unfolding chosen
+  one p ps true x e h = ap (λ (q : Bool). chosen (cond q (Some p) (find suited ps))) e
+  one p ps false x e h = ap (λ (q : Bool). chosen (cond q (Some p) (find suited ps))) e ∙ h
 
-    module _ (f : a ≡ false) (c : Bool) (ec : c ≡ suits_by start gap 4 16) where
-      pub narrow_16 : c ≡ true → pad_is (record { unit = Short; width = 16 }) ≡ placed_pad 0 start gap
-      unfolding pad_is placed_pad
-      narrow_16 t = let e : suits start gap 32 ≡ false = sym suits_32 ∙ sym ea ∙ f in let g : suits start gap 16 ≡ true = sym suits_16 ∙ sym ec ∙ t in rw (e, placed_pad, g)
+  none : chosen (find suited []) ≡ record { unit = char; width = 1 }
+  unfolding chosen
+  none = refl
 
-      pub narrow_char : c ≡ false → (r : Code) → pad_is r ≡ placed_char start gap → pad_is r ≡ placed_pad 0 start gap
-      unfolding placed_pad placed_char
-      narrow_char t r er = let e : suits start gap 32 ≡ false = sym suits_32 ∙ sym ea ∙ f in let g : suits start gap 16 ≡ false = sym suits_16 ∙ sym ec ∙ t in er ∙ rw (e, placed_pad, g)
+  narrow : chosen (find suited (drop 1 rows)) ≡ placed_pad 0 start gap
+  unfolding placed_pad
+  narrow =
+      one (5, Int, 32) (drop 2 rows) _ _ (suits_32 start gap) (one (4, Short, 16) (drop 3 rows) _ _ (suits_16 start gap) (one (3, Char, 8) (drop 4 rows) _ _ (suits_8 start gap)
+      (one (2, Char, 4) (drop 5 rows) _ _ (suits_4 start gap) (one (1, Char, 2) [] _ _ (suits_2 start gap) none))))
 
-  -- ---- placed_pad
-  module _ (ptr_sz : ℕ) where
-    pub placed_other : (ptr_sz ≡ 8 → ⊥) → (r : Code) → pad_is r ≡ placed_pad 0 start gap → pad_is r ≡ placed_pad ptr_sz start gap
-    unfolding placed_pad
-    placed_other n r er = er ∙ rw (ne_eqb ptr_sz 8 n, placed_pad)
+  pub placed_other : (p : ℕ) → (p ≡ 8 → ⊥) → chosen (find suited (drop 1 rows)) ≡ placed_pad p start gap
+  unfolding placed_pad
+  placed_other p n = narrow ∙ rw (ne_eqb p 8 n, placed_pad)
 
-    module _ (p : ptr_sz ≡ 8) (a : Bool) (ea : a ≡ suits_by start gap 6 64) where
-      pub placed_64 : a ≡ true → pad_is (record { unit = Long; width = 64 }) ≡ placed_pad ptr_sz start gap
-      unfolding pad_is placed_pad
-      placed_64 t = let e : suits start gap 64 ≡ true = sym suits_64 ∙ sym ea ∙ t in rw (p, placed_pad, e)
+  pub placed_eight : (p : ℕ) → p ≡ 8 → chosen (find suited rows) ≡ placed_pad p start gap
+  unfolding placed_pad
+  placed_eight p e = one (6, Long, 64) (drop 1 rows) _ _ (suits_64 start gap) narrow ∙ rw e (eight (suits start gap 64))
+    where
+      wide : Bool → Pad
+      wide q = elim q [ true ↦ record { unit = long; width = 64 } | false ↦ placed_pad 0 start gap ]
 
-      pub placed_narrow : a ≡ false → (r : Code) → pad_is r ≡ placed_pad 0 start gap → pad_is r ≡ placed_pad ptr_sz start gap
-      unfolding placed_pad
-      placed_narrow t r er = let e : suits start gap 64 ≡ false = sym suits_64 ∙ sym ea ∙ t in er ∙ rw (p, placed_pad, e)
+      eight : (q : Bool) → wide q ≡ wide (eqb 8 8 && q)
+      eight q = refl
+
+  pub found_some : (r : Option (Bor Row)) (ps : List Row) (x : Bor Row) → option_map (λ (y : Bor Row). y.now) r ≡ find suited ps → r ≡ Some x
+      → pad_is (record { unit = x.now.1; width = x.now.2 }) ≡ chosen (find suited ps)
+  unfolding chosen pad_is
+  found_some r ps x e h = ap (λ (q : Option (Bor Row)). chosen (option_map (λ (y : Bor Row). y.now) q)) (sym h) ∙ ap chosen e
+
+  pub found_none : (r : Option (Bor Row)) (ps : List Row) → option_map (λ (y : Bor Row). y.now) r ≡ find suited ps → r ≡ None
+      → pad_is (record { unit = Char; width = 1 }) ≡ chosen (find suited ps)
+  unfolding chosen pad_is
+  found_none r ps e h = ap (λ (q : Option (Bor Row)). chosen (option_map (λ (y : Bor Row). y.now) q)) (sym h) ∙ ap chosen e

@@ -1,13 +1,13 @@
 -- The pads of a gap: which unit, how wide, and that as many as there are bits are enough. Assumes nothing.
 use Prim.Native.Nat.{ℕ, zero, suc, ◌-◌, ◌*◌, ◌%◌, ◌<◌, ◌≤◌}
 use mathlib.Core.Path.{◌≡◌, refl, ap, ◌∙◌, sym}
-use mathlib.Core.Bool.{Bool, true, false, ◌&&◌}
 use mathlib.Core.List.{List, [], ◌∷◌}
 use mathlib.Core.Logic.{◌⊎◌, inl, inr, ⊎_elim}
 use lib.Dec.{ltb}
 use native.Mathlib.Omega.{arith}
 use native.Mathlib.Nat.{mod-le, mod-eq_of_lt}
 use borrow.Author.Tests.{lt-ltb, le-ltb, ne_eqb}
+use Rattle.std.proofs.Math.Bool.{and-false}
 use Rattle.spec_bytes.proofs.words.Laws.{le_or_lt}
 use Rattle.spec_c_dumper.specs.rules.Layout.{long, int, short, char, Pad, chip_away_bits, pad_of, pads_of}
 
@@ -33,10 +33,6 @@ chip_width total n ln lt = zero_or (total % n) whole part
         rw e (l, mod-le total n)
 
 -- ---- the next pad
-and_false : (x : Bool) → (x && false) ≡ false
-and_false true = refl
-and_false false = refl
-
 module _ (p gap : ℕ) where
   pub pad_long : 4 < p → 32 < gap → pad_of p gap ≡ record { unit = long; width = chip_away_bits gap (p * 8) }
   unfolding pad_of
@@ -45,7 +41,7 @@ module _ (p gap : ℕ) where
   pub no_long : (p ≤ 4) ⊎ (gap ≤ 32) → pad_of p gap ≡ pad_of 0 gap
   unfolding pad_of
   no_long (inl f) = rw (le-ltb 4 p f, pad_of)
-  no_long (inr h) = rw (le-ltb 32 gap h, pad_of, and_false (ltb 4 p))
+  no_long (inr h) = rw (le-ltb 32 gap h, pad_of, and-false (ltb 4 p))
 
 module _ (gap : ℕ) where
   pub pad_int : 16 < gap → pad_of 0 gap ≡ record { unit = int; width = chip_away_bits gap 32 }

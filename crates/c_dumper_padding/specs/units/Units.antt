@@ -1,7 +1,7 @@
 -- What the code's pads stand for.
 use Rattle.std.specs.Prelude.{ℕ, Bool, true, false, ◌&&◌, List, leb}
 use Rattle.std.specs.Int.Count.{count_trailing_zeros}
-use Rattle.spec_c_dumper.specs.rules.Layout.{PadUnit, long, int, short, char, Pad, suits, pad_of, pads_of, placed_pad, placed_pads}
+use Rattle.spec_c_dumper.specs.rules.Layout.{PadUnit, long, int, short, char, Pad, pad_of, pads_of, placed_pad, placed_pads}
 use Rattle.c_dumper_padding.specs.declared.units.Pad.{Pad as Code}
 use Rattle.c_dumper_padding.specs.declared.units.Unit.{Unit}
 use Rattle.c_dumper_padding.specs.declared.units.Unit.TheVariants.{Long, Int, Short, Char}
@@ -25,14 +25,3 @@ pads_by placing ptr_sz start gap = elim placing [ true ↦ placed_pads gap ptr_s
 -- whether a pad of 2^log = width bits starts on a multiple of its width, by the zeros at the end of its start, and fits
 unfoldable pub suits_by : ℕ → ℕ → ℕ → ℕ → Bool
 suits_by start gap log width = leb log (count_trailing_zeros 64 start) && leb width gap
-
--- the pads of placed_pad that are chars
-unfoldable pub placed_char : ℕ → ℕ → Pad
-placed_char start gap =
-    elim (suits start gap 8) [
-      | true ↦ record { unit = char; width = 8 }
-      | false ↦ elim (suits start gap 4) [
-        | true ↦ record { unit = char; width = 4 }
-        | false ↦ elim (suits start gap 2) [ true ↦ record { unit = char; width = 2 } | false ↦ record { unit = char; width = 1 } ]
-      ]
-    ]

@@ -5,8 +5,8 @@ use native.Mathlib.Omega.{arith}
 use mathlib.Core.Path.{◌≡◌, refl, sym, ◌∙◌, ap}
 use mathlib.Core.Bool.{Bool, true, false, true≢false}
 use mathlib.Core.List.{List, [], ◌∷◌}
-use lib.ListN.{length, get_or}
 use borrow.Author.Tests.{le-ltb}
+use Rattle.std.proofs.lemmas.List.{get_or_past}
 use Rattle.spec_linux_btf.specs.Documentation.{pack, btf_info, btf_int, Member, enumerator, param, secinfo, enumerator64, Body, described, kind_of, vlen_of}
 use Rattle.spec_linux_btf.specs.Reading.{kind_table, none, kind, shape, known}
 use Rattle.spec_linux_btf.specs.Places.{member_p, tabulate, type_p, sound_p}
@@ -167,12 +167,7 @@ module _ (w : ℕ → ℕ) (p : ℕ) where
 
     past : (k : ℕ) → 20 ≤ k → known (shape (kind k)) ≡ true → ⊥
     unfolding kind
-    past k l e = true≢false (sym (sym (ap (λ n. known (shape n)) (get_past kind_table k l)) ∙ e))
-      where
-        get_past : (t : List _) (i : ℕ) → length t ≤ i → get_or t i none ≡ none
-        get_past [] i q = refl
-        get_past (x ∷ t) zero q = absurd (omega (arith, q))
-        get_past (x ∷ t) (suc i) q = get_past t i (omega (arith, q))
+    past k l e = true≢false (sym (sym (ap (λ n. known (shape n)) (get_or_past kind_table k none l)) ∙ e))
 
     no_more : 3 + 0 * v ≡ 3
     no_more = omega arith

@@ -4,12 +4,13 @@ use native.Mathlib.Omega.{arith}
 use native.Mathlib.Decide.{ℕ_discrete}
 use mathlib.Core.Path.{◌≡◌, refl, sym, ◌∙◌, ap, subst}
 use mathlib.Core.Bool.{Bool, true, false, not}
-use mathlib.Core.List.{List, [], ◌∷◌}
+use mathlib.Core.List.{List}
 use mathlib.Core.Logic.{◌⊎◌, inl, inr}
 use lib.ListN.{length, get_or, set, length-set}
 use lib.Seq.{get_or-set_same, get_or-set_other}
 use lib.Dec.{ltb, eqb}
 use borrow.Author.Tests.{eq-eqb, ne_eqb, eqb-true, eqb-false, ltb-true, ltb-false}
+use Rattle.std.proofs.lemmas.List.{get_or_past}
 use Rattle.spec_bytes.specs.words.Words.{pick}
 use Rattle.spec_type_table.specs.declared.types.TypeTable.{TypeTable}
 use Rattle.spec_type_table.specs.Records.{section_word}
@@ -22,11 +23,6 @@ use Rattle.session_cut.specs.numbering.Marked.{Has}
 pub positive : (v : ℕ) → (v ≡ 0 → ⊥) → 0 < v
 positive zero n = absurd (n refl)
 positive (suc v) n = omega arith
-
-get_past : (l : List ℕ) (i : ℕ) → length l ≤ i → get_or l i 0 ≡ 0
-get_past [] i h = refl
-get_past (x ∷ l) zero h = absurd (omega (arith, h))
-get_past (x ∷ l) (suc i) h = get_past l i (omega (arith, h))
 
 -- ---- tags
 module _ (b : TypeTable) (s start : List ℕ) where
@@ -198,7 +194,7 @@ module _ (m : List ℕ) (void : get_or m 0 0 ≡ 0) where
       go : (p : Bool) → eqb (get_or l n 0) 0 ≡ p → (q : Bool) → ltb n (length l) ≡ q
           → Numbers (suc n) (elim p as (λ z. Numbered) [ true ↦ numbered l c | false ↦ elim q as (λ z. Numbered) [ true ↦ numbered (set l n (suc c)) (suc c) | false ↦ numbered l c ] ])
       go true e q f = same (sym here ∙ eqb-true (get_or l n 0) 0 e)
-      go false e false f = absurd (eqb-false (get_or l n 0) 0 e (get_past l n (ltb-false n (length l) f)))
+      go false e false f = absurd (eqb-false (get_or l n 0) 0 e (get_or_past l n 0 (ltb-false n (length l) f)))
       go false e true f = some n refl
         where
           k : n < length l

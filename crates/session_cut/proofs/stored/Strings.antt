@@ -5,6 +5,7 @@ use mathlib.Core.Bool.{Bool, true, false, not}
 use mathlib.Core.List.{List, [], ◌∷◌, ◌++◌, append_assoc}
 use lib.ListN.{get_or}
 use lib.Dec.{eqb}
+use Rattle.std.proofs.lemmas.List.{append-nil}
 use Rattle.spec_linux_btf.specs.Documentation.{encode_strings}
 use Rattle.spec_c_dumper.specs.rules.Types.{Name, is_empty}
 use Rattle.spec_c_dumper.specs.rules.Names.{same_bytes}
@@ -17,10 +18,6 @@ use Rattle.session_cut_marks.specs.mentioned.Names.{is_name, or_name, named_to, 
 use Rattle.session_cut_marks.specs.mentioned.Strings.{name_bytes, names_bytes, own_bytes, news_bytes, strings_bytes}
 use Rattle.session_cut.specs.stored.Mentioned.{store, stored, or_else, word_name, names_to, kept_names, names_before}
 use Rattle.session_cut.proofs.stored.Store.{store_append, has_append, has_one, has_stored, strings_add}
-
-nothing_more : {A : Type 0} (l : List A) → l ++ [] ≡ l
-nothing_more [] = refl
-nothing_more (x ∷ l) = ap (λ t. x ∷ t) (nothing_more l)
 
 module _ (b : TypeTable) (s : List ℕ) where
   -- ---- a name among those of a record
@@ -109,7 +106,7 @@ module _ (b : TypeTable) (s : List ℕ) where
             ∙ ap (λ (l : List ℕ). encode_strings (stored (before x e j)) ++ l)
             (by (has (stored (before x e j)) (str_at b s (word_of b s e j)))
             ∙ sym (ap (λ (q : Bool). elim q as (λ z. List ℕ) [ true ↦ str_at b s (word_of b s e j) ++ (0 ∷ []) | false ↦ [] ]) (new_is x e j r)))
-        go false r = sym (ap (λ (l : List ℕ). encode_strings (stored (before x e j)) ++ l) (none (new_none x e j r)) ∙ nothing_more (encode_strings (stored (before x e j))))
+        go false r = sym (ap (λ (l : List ℕ). encode_strings (stored (before x e j)) ++ l) (none (new_none x e j r)) ∙ append-nil (encode_strings (stored (before x e j))))
 
     step_bytes : (x e j : ℕ) → encode_strings (stored (before x e (suc j))) ≡ encode_strings (stored (before x e j)) ++ name_bytes b s start ids x e j
     unfolding names_to
@@ -120,7 +117,7 @@ module _ (b : TypeTable) (s : List ℕ) where
 
     zero_bytes : (x e : ℕ) → encode_strings (stored (before x e zero)) ≡ encode_strings (stored (names_before b s start ids x)) ++ []
     unfolding names_to
-    zero_bytes x e = ap (λ (l : List Name). encode_strings (stored l)) (nothing_more (names_before b s start ids x)) ∙ sym (nothing_more (encode_strings (stored (names_before b s start ids x))))
+    zero_bytes x e = ap (λ (l : List Name). encode_strings (stored l)) (append-nil (names_before b s start ids x)) ∙ sym (append-nil (encode_strings (stored (names_before b s start ids x))))
 
     -- those of the first n words
     pub names_bytes_lem : (x e n : ℕ) → encode_strings (stored (before x e n)) ≡ encode_strings (stored (names_before b s start ids x)) ++ names_bytes b s start ids x e n

@@ -5,18 +5,17 @@ use native.Mathlib.Numerals.{add-one}
 use native.Mathlib.Decide.{ℕ_discrete}
 use mathlib.Core.Path.{◌≡◌, refl, sym, ◌∙◌, ap, subst}
 use Rattle.std.specs.Int.{to_be_bytes, to_le_bytes}
-use Rattle.std.specs.Prelude.{Ok, Err, IsErrAnd}
-use mathlib.Core.Bool.{Bool, true, false, not, true≢false}
+use Rattle.std.specs.Prelude.{Ok}
+use mathlib.Core.Bool.{Bool, true, false}
 use Rattle.std.proofs.Common.{Option, Some, None, unwrap_or}
 use mathlib.Core.List.{List, [], ◌∷◌, ◌++◌}
 use lib.ListN.{length, get_or, drop, length-append}
 use lib.Dec.{eqb}
 use mir.Syntax.{w32}
 use borrow.Author.Tests.{eq-eqb, ne_eqb, lt-ltb, le-ltb}
-use Rattle.spec_bytes.specs.declared.refusal.Refusal.{Refusal}
 use Rattle.spec_bytes.specs.text.Text.{whole, bytes}
 use Rattle.spec_bytes.specs.text.Placed.{Placed, put_out, written, put_text}
-use Rattle.spec_bytes.proofs.text.TextLaws.{put_fits, went, put_seq, put_empty}
+use Rattle.spec_bytes.proofs.text.TextLaws.{put_fits, went, put_seq}
 use Rattle.spec_c_dumper.specs.rules.Types.{is_empty}
 use Rattle.spec_type_table.specs.declared.types.TypeTable.{TypeTable}
 use Rattle.spec_type_table.specs.Names.{str_at}
@@ -24,9 +23,8 @@ use Rattle.btf_open_causes.specs.references.Followed.{type_count, entry_at}
 use Rattle.session_cut_marks.specs.tags.Tags.{some_number}
 use Rattle.session_cut_marks.specs.roles.Words.{role, words_in, word_of}
 use Rattle.session_cut_marks.proofs.roles.Laws.{words_few}
-use Rattle.session_cut_marks.specs.mentioned.Names.{is_name, first_from, mentions, is_new, new_sizes, base_of, place_at, place_from, place_of, zero_bases}
+use Rattle.session_cut_marks.specs.mentioned.Names.{is_name, named_to, first_from, first_name, mentions, is_new, new_sizes, base_of, place_at, place_from, place_of, zero_bases}
 use Rattle.session_cut_marks.specs.mentioned.Strings.{strings_bytes}
-use Rattle.session_cut_marks.proofs.mentioned.Laws.{flip_true, flip_false}
 use Rattle.session_cut_marks.proofs.mentioned.Sizes.{strings_length}
 use Rattle.session_cut_marks.specs.interned.Slots.{found, slot_place}
 use Rattle.session_cut_marks.specs.interned.Filled.{zero_table, filled_of, filling_of, filling}
@@ -34,8 +32,7 @@ use Rattle.session_cut_marks.specs.interned.Right.{all_bases, Right, StringKept}
 use Rattle.session_cut_marks.proofs.interned.Right.{table_over, table_length, table_bases}
 use Rattle.session_cut_marks.proofs.interned.Places.{base_up}
 use Rattle.session_cut_marks.proofs.interned.Found.{found_place, first_is, new_place}
-use Rattle.session_cut.specs.writer.Bytes.{word_bytes, magic_bytes, head_bytes, type_size, types_size, new_word, record_bytes, types_bytes, all_bytes, sought, Wrote, wrote_of, fitting_written, kept_written}
-use Rattle.session_cut.proofs.writer.Stops.{loop_stops}
+use Rattle.session_cut.specs.writer.Bytes.{word_bytes, magic_bytes, head_bytes, type_size, types_size, new_word, types_bytes, all_bytes, sought, Wrote, wrote_of, fitting_written, kept_written}
 use Rattle.session_cut.proofs.writer.Sizes.{head_length, types_length}
 
 none_some : {p : ℕ} → None ≡ Some p → ⊥
@@ -56,10 +53,36 @@ unfolding some_number
 number_of zero = refl
 number_of (suc p) = refl
 
+-- a new id, and 0 where there is none
+pub id_or_none : (o : Option ℕ) (n : ℕ) → o ≡ some_number n → (r : ℕ) → r ≡ unwrap_or o 0 → r ≡ n
+id_or_none o n e r h = h ∙ ap (λ (q : Option ℕ). unwrap_or q 0) e ∙ number_of n
+
 place_some : (p : ℕ) → 1 ≤ p → some_number p ≡ Some p
 unfolding some_number
 place_some zero l = absurd (omega (arith, l))
 place_some (suc p) l = refl
+
+-- a type that is kept, by another name
+pub kept_at : (ids : List ℕ) (x y : ℕ) → y ≡ x → (get_or ids y 0 ≡ 0 → ⊥) → get_or ids x 0 ≡ 0 → ⊥
+kept_at ids x y i n z = n (ap (λ (k : ℕ). get_or ids k 0) i ∙ z)
+
+-- the first word with a name, and whether there is one
+module _ (b : TypeTable) (s : List ℕ) (e off n : ℕ) (r : Option ℕ) (h : r ≡ first_name b s e off n) where
+  pub first_no : r ≡ None → named_to b s e off n ≡ false
+  unfolding first_name
+  first_no z = go (named_to b s e off n) (sym h ∙ z)
+    where
+      go : (q : Bool) → elim q as (λ z. Option ℕ) [ true ↦ Some (first_from b s e off 0 n) | false ↦ None ] ≡ None → q ≡ false
+      go true g = cc
+      go false g = refl
+
+  pub first_some : (j : ℕ) → r ≡ Some j → (named_to b s e off n ≡ true) × (j ≡ first_from b s e off 0 n)
+  unfolding first_name
+  first_some j z = go (named_to b s e off n) (sym h ∙ z)
+    where
+      go : (q : Bool) → elim q as (λ z. Option ℕ) [ true ↦ Some (first_from b s e off 0 n) | false ↦ None ] ≡ Some j → (q ≡ true) × (j ≡ first_from b s e off 0 n)
+      go true g = (refl, cc)
+      go false g = cc
 
 module _ (b : TypeTable) (s : List ℕ) where
   first_up : (e off j k : ℕ) → first_from b s e off j k ≤ j + k
@@ -126,10 +149,6 @@ module _ (b : TypeTable) (s : List ℕ) where
       new_at x e k j len l is new g z = new_place b s start ids t right x e k j len l is (sym g ∙ z) ∙ ap (λ (u : List ℕ). place_of b s start ids u (word_of b s e j)) (sym a)
 
   module _ (start ids : List ℕ) where
-    pub place_kept : (off x : ℕ) (q : Bool) → q ≡ mentions b s start ids off x → not q ≡ false → get_or ids x 0 ≡ 0 → ⊥
-    unfolding mentions
-    place_kept off x q k z w = true≢false (sym (flip_false q z) ∙ k ∙ rw (eq-eqb (get_or ids x 0) 0 w, mentions))
-
     base_zero : base_of b s start ids 0 ≡ 1
     unfolding base_of
     base_zero = refl
@@ -139,23 +158,34 @@ module _ (b : TypeTable) (s : List ℕ) where
     base_some x = let z : 0 + x ≡ x = omega arith in omega (arith, base_up b s start ids 0 x, ap (base_of b s start ids) z, base_zero)
 
     module _ (bases : List ℕ) where
-      module _ (off x : ℕ) (q : Bool) (k : q ≡ mentions b s start ids off x) where
-        pub place_none : not q ≡ true → None ≡ some_number (place_at b s start ids bases off x)
-        unfolding place_at some_number
-        place_none z = rw (sym k ∙ flip_true q z, place_at)
+      module _ (off x : ℕ) where
+        pub place_unkept : get_or ids x 0 ≡ 0 → None ≡ some_number (place_at b s start ids bases off x)
+        unfolding place_at mentions some_number
+        place_unkept z = rw (eq-eqb (get_or ids x 0) 0 z, mentions, place_at)
 
-        place_is : not q ≡ false → (e : ℕ) → e ≡ entry_at b start x → (n : ℕ) → n ≡ words_in b s e → (j : ℕ) → j ≡ first_from b s e off 0 n → (v : ℕ) → v ≡ get_or bases x 0 → (r : ℕ) → r ≡ new_sizes b s start ids x e j
-            → v + r ≡ place_at b s start ids bases off x
-        unfolding place_at
-        place_is z e f n g j h v w r p =
-            (λ i. w i + (p ∙ ap (new_sizes b s start ids x e) (h ∙ ap (first_from b s e off 0) g) ∙ ap (λ (u : ℕ). new_sizes b s start ids x u (first_from b s u off 0 (words_in b s u))) f) i)
-            ∙ rw (sym k ∙ flip_false q z, place_at)
+        module _ (kept : get_or ids x 0 ≡ 0 → ⊥) where
+          pub place_none : (e : ℕ) → e ≡ entry_at b start x → (n : ℕ) → n ≡ words_in b s e → (r : Option ℕ) → r ≡ first_name b s e off n → r ≡ None → None ≡ some_number (place_at b s start ids bases off x)
+          unfolding place_at mentions some_number
+          place_none e f n g r h z =
+              let m : named_to b s (entry_at b start x) off (words_in b s (entry_at b start x)) ≡ false
+              = (λ i. named_to b s (sym f i) off ((ap (words_in b s) (sym f) ∙ sym g) i)) ∙ first_no b s e off n r h z in
+              rw (ne_eqb (get_or ids x 0) 0 kept, mentions, m, place_at)
 
-        pub place_long : not q ≡ false → (y : ℕ) → y ≡ x → (e : ℕ) → e ≡ entry_at b start x → (n : ℕ) → n ≡ words_in b s e → (j : ℕ) → j ≡ first_from b s e off 0 n → get_or bases x 0 ≡ base_of b s start ids x
-            → (r : ℕ) → r ≡ base_of b s start ids y + new_sizes b s start ids y e j → Some r ≡ some_number (place_at b s start ids bases off x)
-        place_long z y i e f n g j h u r p =
-            sym (place_some r (omega (arith, p, base_some y)))
-            ∙ ap some_number (p ∙ ap (λ (v : ℕ). base_of b s start ids v + new_sizes b s start ids v e j) i ∙ ap (λ (c : ℕ). c + new_sizes b s start ids x e j) (sym u) ∙ place_is z e f n g j h (get_or bases x 0) refl (new_sizes b s start ids x e j) refl)
+          place_is : named_to b s (entry_at b start x) off (words_in b s (entry_at b start x)) ≡ true → (e : ℕ) → e ≡ entry_at b start x → (n : ℕ) → n ≡ words_in b s e → (j : ℕ) → j ≡ first_from b s e off 0 n → (v : ℕ) → v ≡ get_or bases x 0 → (r : ℕ) → r ≡ new_sizes b s start ids x e j
+              → v + r ≡ place_at b s start ids bases off x
+          unfolding place_at mentions
+          place_is m e f n g j h v w r p =
+              (λ i. w i + (p ∙ ap (new_sizes b s start ids x e) (h ∙ ap (first_from b s e off 0) g) ∙ ap (λ (u : ℕ). new_sizes b s start ids x u (first_from b s u off 0 (words_in b s u))) f) i)
+              ∙ rw (ne_eqb (get_or ids x 0) 0 kept, mentions, m, place_at)
+
+          pub place_long : (y : ℕ) → y ≡ x → (e : ℕ) → e ≡ entry_at b start x → (n : ℕ) → n ≡ words_in b s e → (a : Option ℕ) → a ≡ first_name b s e off n → (j : ℕ) → a ≡ Some j → get_or bases x 0 ≡ base_of b s start ids x
+              → (r : ℕ) → r ≡ base_of b s start ids y + new_sizes b s start ids y e j → Some r ≡ some_number (place_at b s start ids bases off x)
+          place_long y i e f n g a h j z u r p =
+              let first = first_some b s e off n a h j z in
+              let m : named_to b s (entry_at b start x) off (words_in b s (entry_at b start x)) ≡ true
+              = (λ k. named_to b s (sym f k) off ((ap (words_in b s) (sym f) ∙ sym g) k)) ∙ first.0 in
+              sym (place_some r (omega (arith, p, base_some y)))
+              ∙ ap some_number (p ∙ ap (λ (v : ℕ). base_of b s start ids v + new_sizes b s start ids v e j) i ∙ ap (λ (c : ℕ). c + new_sizes b s start ids x e j) (sym u) ∙ place_is m e f n g j first.1 (get_or bases x 0) refl (new_sizes b s start ids x e j) refl)
 
       module _ (off : ℕ) (m : Bool) (g : m ≡ is_empty (str_at b s off)) where
         pub place_first : m ≡ true → 0 ≡ place_of b s start ids bases off
@@ -186,24 +216,6 @@ module _ (b : TypeTable) (s : List ℕ) where
           pub word_plain : (v ≡ 2 → ⊥) → w ≡ new_word b s start ids bases e j
           unfolding new_word
           word_plain z = f ∙ rw (ne_eqb (role (e % 32) j) 1 (λ u. n (k ∙ u)), new_word, ne_eqb (role (e % 32) j) 2 (λ u. z (k ∙ u)))
-
-      pub no_words : (t : List ℕ) (at : Placed) (e : ℕ) → put_out at t ≡ put_text t at (whole (record_bytes b s start ids bases e 0))
-      unfolding record_bytes
-      no_words t at e = put_empty t at
-
-      pub more_words : (t : List ℕ) (at : Placed) (e j : ℕ) (p : Placed) (u : List ℕ) (r : Placed) (u' : List ℕ) (v i : ℕ) → i ≡ j → put_out p u ≡ put_text t at (whole (record_bytes b s start ids bases e j)) → v ≡ new_word b s start ids bases e i
-          → put_out r u' ≡ put_text u p (whole (word_bytes b.big_endian v)) → put_out r u' ≡ put_text t at (whole (record_bytes b s start ids bases e (j + 1)))
-      unfolding record_bytes
-      more_words t at e j p u r u' v i w h g k = rw add-one (put_seq t at (record_bytes b s start ids bases e j) (word_bytes b.big_endian (new_word b s start ids bases e j)) p u r u' h (k ∙ ap (λ (z : ℕ). put_text u p (whole (word_bytes b.big_endian z))) (g ∙ ap (new_word b s start ids bases e) w)))
-
-      pub words_stop : (t : List ℕ) (at : Placed) (e n j : ℕ) (u : List ℕ) (c : Refusal) → n ≡ words_in b s e → j < n → put_out (Err c) u ≡ put_text t at (whole (record_bytes b s start ids bases e (j + 1)))
-          → (r : Placed) → IsErrAnd r (λ d. d ≡ c) → put_out r u ≡ put_text t at (whole (record_bytes b s start ids bases e (words_in b s e)))
-      unfolding record_bytes
-      words_stop t at e n j u c w l h r k = loop_stops (record_bytes b s start ids bases e) (λ m. word_bytes b.big_endian (new_word b s start ids bases e m)) (λ m. refl) t at c u (j + 1) (words_in b s e) (omega (arith, w, l)) h r k
-
-      pub all_words : (t : List ℕ) (at : Placed) (e n j : ℕ) (p : Placed) (u : List ℕ) → n ≡ words_in b s e → j ≤ n → n ≤ j → put_out p u ≡ put_text t at (whole (record_bytes b s start ids bases e j))
-          → put_out p u ≡ put_text t at (whole (record_bytes b s start ids bases e (words_in b s e)))
-      all_words t at e n j p u c l g h = let z : j ≡ n = omega (arith, l, g) in h ∙ ap (λ (k : ℕ). put_text t at (whole (record_bytes b s start ids bases e k))) (z ∙ c)
 
     -- ---- the length of the types
     module _ (x len v : ℕ) (k : v ≡ get_or ids x 0) where

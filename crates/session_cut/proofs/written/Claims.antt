@@ -7,6 +7,7 @@ use mathlib.Core.List.{List, ◌++◌, map, append_assoc, Memᴰ}
 use lib.ListN.{length, get_or, drop, length-append}
 use lib.Dec.{ltb}
 use borrow.Author.Tests.{le-ltb, lt-ltb, ltb-true, ltb-false}
+use Rattle.std.proofs.Math.Bool.{or-true}
 use Rattle.spec_bytes.specs.words.Words.{words}
 use Rattle.spec_linux_btf.specs.Documentation.{Described, Every, Allowed, size_of, btf_header, btf_version, header, encode_all, encode_strings, encode_header, encode_section}
 use Rattle.spec_linux_btf.specs.Reading.{Bytes}
@@ -62,10 +63,6 @@ twenty_three out len = elim (ltb out len || ltb 16777216 len) [ true ↦ 23 | fa
 abbrev pub cut_length : ℕ → ℕ → Option ℕ
 cut_length zero len = Some len
 cut_length (suc number) len = None
-
-or_right : (q : Bool) → (q || true) ≡ true
-or_right true = refl
-or_right false = refl
 
 -- "the header has 24 bytes"
 head_long : (big : Bool) (flags types strings : ℕ) (rest : List ℕ) → length (encode_header big (header btf_version flags (size_of btf_header) 0 types types strings) ++ rest) ≡ 24 + length rest
@@ -197,7 +194,7 @@ module _ (p : ℕ) (s : List ℕ) (y : Bytes s) (short : length s ≤ 16777216) 
   accepted out e = ap (λ (q : Bool). after (elim q [ true ↦ 23 | false ↦ 0 ]) out) (sym e)
 
   too_long : (out : List ℕ) → 16777216 < length (cut_section m s) → (ltb (length out) (length (cut_section m s)) || ltb 16777216 (length (cut_section m s))) ≡ true
-  too_long out l = ap (λ (q : Bool). ltb (length out) (length (cut_section m s)) || q) (lt-ltb 16777216 (length (cut_section m s)) l) ∙ or_right (ltb (length out) (length (cut_section m s)))
+  too_long out l = ap (λ (q : Bool). ltb (length out) (length (cut_section m s)) || q) (lt-ltb 16777216 (length (cut_section m s)) l) ∙ or-true (ltb (length out) (length (cut_section m s)))
 
   -- THE THEOREM: the length written and every byte of the output slice
   pub kept_written_lem : (out : List ℕ) → kept_written b s start ids out ≡ after (twenty_three (length out) (length (cut_section m s))) out

@@ -9,6 +9,7 @@ use mathlib.Core.Logic.{◌⊎◌, inl, inr}
 use lib.ListN.{length, get_or, set, length-set, length-replicate}
 use lib.Dec.{ltb, eqb}
 use borrow.Author.Tests.{ltb-true}
+use Rattle.std.proofs.lemmas.List.{get_or_past}
 use Rattle.spec_bytes.specs.words.Words.{words}
 use Rattle.spec_bytes.proofs.words.Laws.{le_or_lt}
 use Rattle.spec_linux_btf.specs.Documentation.{Described}
@@ -25,11 +26,6 @@ use Rattle.spec_cut.specs.reopened.Seen.{SeenFrom}
 use Rattle.session_cut_marks.specs.tags.Tags.{tag_on, tagged_at, tagged_to, Numbered, numbered, numbers_in, numbered_at, numbered_to, numbers_of}
 use Rattle.session_cut_marks.specs.marks.Marks.{Heap, heap, marks_in, pushed, pushed_to, weight, turned, closed, all_zero, asked as first, reached_marks, ids_of}
 use Rattle.session_cut.proofs.numbering.Claims.{ids_are}
-
-pub get_past : {A : Type 0} (l : List A) (i : ℕ) (d : A) → length l ≤ i → get_or l i d ≡ d
-get_past [] i d h = refl
-get_past (x ∷ l) zero d h = absurd (omega (arith, h))
-get_past (x ∷ l) (suc i) d h = get_past l i d (omega (arith, h))
 
 -- ---- the list keeps its length
 
@@ -128,7 +124,7 @@ module _ (ts : List Described) (few : length ts ≤ 262144) (good : GoodReferenc
   tag_low (suc i) e = go (le_or_lt (length ts) i)
     where
       go : (length ts ≤ i) ⊎ (i < length ts) → suc i < 262145
-      go (inl q) = absurd (true≢false (sym e ∙ ap is_decl_tag (get_past ts i void_type q)))
+      go (inl q) = absurd (true≢false (sym e ∙ ap is_decl_tag (get_or_past ts i void_type q)))
       go (inr q) = omega (arith, q, few)
 
   kept_low : (x : ℕ) → Kept ts gs x → x < 262145
@@ -149,5 +145,5 @@ pub ids_all : (b : TypeTable) (s start : List ℕ) (ts : List Described) → See
 ids_all b s start ts see few good given past x = go (le_or_lt 262145 x)
   where
     go : (262145 ≤ x) ⊎ (x < 262145) → get_or (ids_of b s start given all_zero) x 0 ≡ new_id (is_kept ts (words given)) x
-    go (inl l) = get_past (ids_of b s start given all_zero) x 0 (omega (arith, l, ids_long b s start given)) ∙ sym (new_past ts few good (words given) past x l)
+    go (inl l) = get_or_past (ids_of b s start given all_zero) x 0 (omega (arith, l, ids_long b s start given)) ∙ sym (new_past ts few good (words given) past x l)
     go (inr l) = ids_are b s start ts see given (reached_low ts few good (words given) past) x l

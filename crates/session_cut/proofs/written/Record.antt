@@ -6,6 +6,7 @@ use mathlib.Core.Bool.{Bool, true, false}
 use mathlib.Core.List.{List, [], ◌∷◌, ◌++◌, map, append_assoc}
 use lib.ListN.{length, get_or}
 use lib.Dec.{leb, eqb}
+use Rattle.std.proofs.lemmas.List.{append-nil}
 use Rattle.spec_linux_btf.specs.Documentation.{in_bytes, Described, encode}
 use Rattle.spec_linux_btf.specs.Reading.{Bytes, kind, shape, known}
 use Rattle.spec_linux_btf.specs.Places.{kind_p, tabulate, type_p, sound_p}
@@ -34,13 +35,9 @@ use Rattle.session_cut.proofs.items.Described.{put, encode_items, mentions_items
 use Rattle.session_cut.proofs.items.Places.{words_of_lem}
 use Rattle.session_cut.specs.stored.Mentioned.{word_name, names_to}
 
-nothing_more : {A : Type 0} (l : List A) → l ++ [] ≡ l
-nothing_more [] = refl
-nothing_more (x ∷ l) = ap (λ t. x ∷ t) (nothing_more l)
-
 -- one word more
 flat_last : {A : Type 0} (f : Item → List A) (g : ℕ → Item) (k n : ℕ) → flat f (tabulate g k (suc n)) ≡ flat f (tabulate g k n) ++ f (g (k + n))
-flat_last f g k zero = let z : k ≡ k + 0 = omega arith in nothing_more (f (g k)) ∙ ap (λ (i : ℕ). f (g i)) z
+flat_last f g k zero = let z : k ≡ k + 0 = omega arith in append-nil (f (g k)) ∙ ap (λ (i : ℕ). f (g i)) z
 flat_last f g k (suc n) =
     let z : suc k + n ≡ k + suc n = omega arith in
     ap (λ l. f (g k) ++ l) (flat_last f g (suc k) n ∙ ap (λ (i : ℕ). flat f (tabulate g (suc k) n) ++ f (g i)) z)

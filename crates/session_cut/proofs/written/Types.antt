@@ -7,6 +7,7 @@ use mathlib.Core.List.{List, [], ◌∷◌, ◌++◌, map}
 use lib.ListN.{length, get_or}
 use lib.Dec.{eqb}
 use borrow.Author.Tests.{eq-eqb, ne_eqb}
+use Rattle.std.proofs.lemmas.List.{append-nil}
 use Rattle.spec_linux_btf.specs.Documentation.{Described, encode, encode_all}
 use Rattle.spec_linux_btf.specs.Reading.{Bytes}
 use Rattle.spec_linux_btf.specs.Section.{header_sound, types_sound}
@@ -36,17 +37,13 @@ abbrev from_to : {A : Type 0} → (ℕ → List A) → ℕ → ℕ → List A
 from_to f x zero = []
 from_to f x (suc k) = f x ++ from_to f (suc x) k
 
-nothing_more : {A : Type 0} (l : List A) → l ++ [] ≡ l
-nothing_more [] = refl
-nothing_more (x ∷ l) = ap (λ t. x ∷ t) (nothing_more l)
-
 joins : {A : Type 0} (a c d : List A) → (a ++ c) ++ d ≡ a ++ (c ++ d)
 joins [] c d = refl
 joins (x ∷ a) c d = ap (λ l. x ∷ l) (joins a c d)
 
 -- what is made by adding at the end
 joined : {A : Type 0} (made : ℕ → List A) (f : ℕ → List A) → ((x : ℕ) → made (suc x) ≡ made x ++ f x) → (x k : ℕ) → made (x + k) ≡ made x ++ from_to f x k
-joined made f step x zero = let z : x + 0 ≡ x = omega arith in ap made z ∙ sym (nothing_more (made x))
+joined made f step x zero = let z : x + 0 ≡ x = omega arith in ap made z ∙ sym (append-nil (made x))
 joined made f step x (suc k) =
     let z : x + suc k ≡ suc x + k = omega arith in
     ap made z ∙ joined made f step (suc x) k ∙ ap (λ l. l ++ from_to f (suc x) k) (step x) ∙ joins (made x) (f x) (from_to f (suc x) k)

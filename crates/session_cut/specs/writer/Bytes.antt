@@ -7,7 +7,7 @@ use Rattle.spec_type_table.specs.Names.{str_at}
 use Rattle.btf_open_causes.specs.references.Followed.{type_count, entry_at}
 use Rattle.session_cut_marks.specs.roles.Words.{role, words_in, word_of}
 use Rattle.session_cut_marks.specs.mentioned.Names.{is_new, place_of, base_of, bases_to, zero_bases}
-use Rattle.session_cut_marks.specs.mentioned.Strings.{own_bytes, news_bytes, strings_bytes}
+use Rattle.session_cut_marks.specs.mentioned.Strings.{name_bytes, names_bytes, own_bytes, news_bytes, strings_bytes}
 use Rattle.session_cut.specs.declared.writer.source.Part.{Part}
 use Rattle.session_cut.specs.declared.writer.source.Part.TheVariants.{Records, Names}
 use Rattle.session_cut_marks.specs.interned.Slots.{found, slot_place}
@@ -48,6 +48,15 @@ module _ (b : TypeTable) (s start ids : List ℕ) where
     unfoldable pub record_bytes : ℕ → ℕ → List ℕ
     record_bytes e zero = []
     record_bytes e (suc n) = record_bytes e n ++ word_bytes b.big_endian (new_word e n)
+
+    -- what a part has of word j of type x, and of its first n words
+    unfoldable pub word_part : Part → ℕ → ℕ → ℕ → List ℕ
+    word_part Records x e j = word_bytes b.big_endian (new_word e j)
+    word_part Names x e j = name_bytes b s start ids x e j
+
+    unfoldable pub words_part : Part → ℕ → ℕ → ℕ → List ℕ
+    words_part Records x e n = record_bytes e n
+    words_part Names x e n = names_bytes b s start ids x e n
 
     unfoldable pub type_bytes : ℕ → List ℕ
     type_bytes x =

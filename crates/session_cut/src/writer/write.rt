@@ -4,21 +4,23 @@ ghost use Rattle.spec_bytes.specs.text.Text.{whole};
 ghost use Rattle.spec_bytes.specs.text.Placed.{put_out, put_text};
 ghost use Rattle.btf_open_causes.specs.references.Followed.{type_count};
 ghost use Rattle.session_cut_marks.specs.roles.Words.{words_in, word_of};
-ghost use Rattle.session_cut_marks.specs.mentioned.Names.{base_of, place_of};
+ghost use Rattle.session_cut_marks.specs.mentioned.Names.{is_new, base_of, place_of};
 ghost use Rattle.session_cut_marks.specs.mentioned.Strings.{strings_bytes};
 ghost use Rattle.session_cut_marks.specs.interned.Right.{IsKept};
-ghost use Rattle.session_cut.specs.writer.Bytes.{word_bytes, magic_bytes, head_bytes, type_size, types_size, new_word, record_bytes};
-ghost use Rattle.session_cut.specs.writer.Bytes.{kept_bytes, part_bytes, all_bytes, wrote_of, fitting_written, kept_written};
+ghost use Rattle.session_cut.specs.writer.Bytes.{word_bytes, magic_bytes, head_bytes, type_size, types_size, new_word};
+ghost use Rattle.session_cut.specs.writer.Bytes.{name_if, word_part, words_part, kept_bytes, part_bytes, all_bytes};
+ghost use Rattle.session_cut.specs.writer.Bytes.{wrote_of, fitting_written, kept_written};
 ghost use Rattle.session_cut_marks.specs.kept.AtKept.{at_kept};
 
-use crate::writer::names::longer;
 use crate::writer::source::{KeptType, Mention, Part, Source};
 use base_bytes::element::peek;
 use base_bytes::limit;
 use base_bytes::put::{put_byte, put_bytes};
 use base_bytes::refusal::Refusal;
-use btf_open_causes::references::count;
-use session_cut_marks::interned::SLOTS_LEN;
+use btf_open_causes::header::{BIG_MAGIC, LITTLE_MAGIC};
+use btf_open_causes::references::Entry;
+use btf_type_table::table::Table;
+use session_cut_marks::interned::{SLOTS_LEN, Slot};
 use session_cut_marks::kept::Kept;
 use session_cut_marks::roles::{Role, word_of, word_role, words_in};
 
@@ -40,14 +42,25 @@ fn put_word(out: &mut [u8], at: usize, big: bool, v: u32) -> Result<usize, Refus
     }
 }
 
-// The magic number 0xEB9F in the order of the bytes, version 1 and the flags.
+// The name of word m and its 0, if it is new.
+fn put_name(b: &Table, e: Entry, m: Mention, out: &mut [u8], at: usize) -> Result<usize, Refusal>
+    ensures { put_out result out.new ≡ put_text out.old (Ok at) (whole (name_if b.now.head b.now.section.now e.word m.j m.new)) }
+{
+    if !m.new {
+        return Ok(at);
+    }
+    let p = b.put_str(out, at, word_of(b, e, m.j))?;
+    put_byte(out, p, 0)
+}
+
+// The magic number in the order of the bytes, version 1 and the flags.
 fn put_magic(out: &mut [u8], at: usize, big: bool, flags: u8) -> Result<usize, Refusal>
     ensures { put_out result out.new ≡ put_text out.old (Ok at) (whole (magic_bytes big flags)) }
 {
     if big {
-        put_bytes(out, at, &[0xEB, 0x9F, 1, flags])
+        put_bytes(out, at, &[BIG_MAGIC[0], BIG_MAGIC[1], 1, flags])
     } else {
-        put_bytes(out, at, &[0x9F, 0xEB, 1, flags])
+        put_bytes(out, at, &[LITTLE_MAGIC[0], LITTLE_MAGIC[1], 1, flags])
     }
 }
 
@@ -69,12 +82,12 @@ pub fn put_head(
     put_word(out, p4, big, strings)
 }
 
-// The length of the types.
+// The length of the types. (A `for`: `type_size` asks a bound of the length so far, which its invariant has.)
 pub fn types_size(kept: &Kept) -> u64
-    ensures { result ≡ at_kept types_size kept.now (type_count kept.now.table.head) }
+    ensures { result ≡ at_kept types_size kept.now (type_count kept.now.index.table.head) }
 {
     let mut len = 0;
-    for x in 0..count(kept.table.head) {
+    for x in 0..kept.index.count() {
         len = type_size(kept, x, len);
     }
     len
@@ -84,79 +97,102 @@ fn type_size(kept: &Kept, x: u32, len: u64) -> u64
     requires { len ≤ 4611686018427387904 }
     ensures { result ≡ at_kept type_size kept.now x len }
 {
-    if kept.new_id(x) == 0 {
+    if kept.new_id(x).is_none() {
         return len;
     }
-    len + (words_in(&kept.table, kept.entry(x)) as u64) * 4
+    len + (words_in(&kept.index.table, kept.entry(x)) as u64) * 4
 }
 
 impl Source<'_> {
     // Word m of the record with entry e, as it is written.
-    fn new_word(&self, e: u32, m: Mention) -> u32
+    fn new_word(&self, e: Entry, m: Mention) -> u32
         requires { ((p : ℕ) → m.place ≡ Some p
             → p ≡ at_kept place_of self.now.kept self.now.bases.now
-            (word_of self.now.kept.table.head self.now.kept.table.section.now e m.j))
+            (word_of self.now.kept.index.table.head self.now.kept.index.table.section.now e.word m.j))
             × (m.new ≡ true
             → m.len ≡ at_kept place_of self.now.kept self.now.bases.now
-            (word_of self.now.kept.table.head self.now.kept.table.section.now e m.j)) }
-        ensures { result ≡ at_kept new_word self.now.kept self.now.bases.now e m.j }
+            (word_of self.now.kept.index.table.head self.now.kept.index.table.section.now e.word m.j)) }
+        ensures { result ≡ at_kept new_word self.now.kept self.now.bases.now e.word m.j }
     {
-        let w = word_of(&self.kept.table, e, m.j);
-        match word_role(e % 32, m.j) {
+        let w = word_of(&self.kept.index.table, e, m.j);
+        match word_role(e, m.j) {
             Role::Name => self.place_of(w, m),
-            Role::Id => self.kept.new_id(w),
+            Role::Id => self.kept.new_id(w).unwrap_or(0),
             Role::Plain => w,
         }
     }
 
-    // The record of type t.
-    fn put_record(&self, t: KeptType, out: &mut [u8], at: usize) -> Result<usize, Refusal>
-        requires { IsKept self.now.kept t.x t.e
+    // What the part has of word m of type t.
+    fn put_word_part(
+        &self,
+        t: KeptType,
+        m: Mention,
+        part: Part,
+        out: &mut [u8],
+        at: usize,
+    ) -> Result<usize, Refusal>
+        requires { ((p : ℕ) → m.place ≡ Some p
+            → p ≡ at_kept place_of self.now.kept self.now.bases.now
+            (word_of self.now.kept.index.table.head self.now.kept.index.table.section.now t.e.word m.j))
+            × (m.new ≡ true
+            → m.len ≡ at_kept place_of self.now.kept self.now.bases.now
+            (word_of self.now.kept.index.table.head self.now.kept.index.table.section.now t.e.word m.j))
+            × (m.new ≡ at_kept is_new self.now.kept t.x t.e.word m.j) }
+        ensures { put_out result out.new
+            ≡ put_text out.old (Ok at) (whole (at_kept word_part self.now.kept self.now.bases.now part t.x t.e.word m.j)) }
+    {
+        let b = &self.kept.index.table;
+        match part {
+            Part::Records => put_word(out, at, b.head.big_endian, self.new_word(t.e, m)),
+            Part::Names => put_name(b, t.e, m, out, at),
+        }
+    }
+
+    // What it has of all words of type t.
+    fn put_words(
+        &self,
+        t: KeptType,
+        part: Part,
+        out: &mut [u8],
+        at: usize,
+    ) -> Result<usize, Refusal>
+        requires { IsKept self.now.kept t.x t.e.word
             × (t.base ≡ at_kept base_of self.now.kept t.x) }
         ensures { put_out result out.new
             ≡ put_text out.old (Ok at)
-            (whole (at_kept record_bytes self.now.kept self.now.bases.now t.e
-            (words_in self.now.kept.table.head self.now.kept.table.section.now t.e))) }
+            (whole (at_kept words_part self.now.kept self.now.bases.now part t.x t.e.word
+            (words_in self.now.kept.index.table.head self.now.kept.index.table.section.now t.e.word))) }
     {
         let mut p = at;
         let mut len = t.base;
-        for j in 0..words_in(&self.kept.table, t.e) {
+        for j in 0..words_in(&self.kept.index.table, t.e) {
             let m = self.mention(t, j, len);
-            p = put_word(
-                out,
-                p,
-                self.kept.table.head.big_endian,
-                self.new_word(t.e, m),
-            )?;
-            len = longer(&self.kept.table, t.e, m);
+            p = self.put_word_part(t, m, part, out, p)?;
+            len = self.longer(t, m);
         }
         Ok(p)
     }
 
     // What the part has of type x: nothing, where it is not kept.
     fn put_kept(&self, x: u32, part: Part, out: &mut [u8], at: usize) -> Result<usize, Refusal>
-        requires { x < type_count self.now.kept.table.head }
+        requires { x < type_count self.now.kept.index.table.head }
         ensures { put_out result out.new
             ≡ put_text out.old (Ok at) (whole (at_kept kept_bytes self.now.kept self.now.bases.now part x)) }
     {
-        if self.kept.new_id(x) == 0 {
+        let Some(t) = self.kept_type(x) else {
             return Ok(at);
-        }
-        let t = self.kept_type(x);
-        match part {
-            Part::Records => self.put_record(t, out, at),
-            Part::Names => self.put_names(t, out, at),
-        }
+        };
+        self.put_words(t, part, out, at)
     }
 
     // What the part has of all types.
     fn put_part(&self, part: Part, out: &mut [u8], at: usize) -> Result<usize, Refusal>
         ensures { put_out result out.new
             ≡ put_text out.old (Ok at)
-            (whole (at_kept part_bytes self.now.kept self.now.bases.now part (type_count self.now.kept.table.head))) }
+            (whole (at_kept part_bytes self.now.kept self.now.bases.now part (type_count self.now.kept.index.table.head))) }
     {
         let mut p = at;
-        for x in 0..count(self.kept.table.head) {
+        for x in 0..self.kept.index.count() {
             p = self.put_kept(x, part, out, p)?;
         }
         Ok(p)
@@ -165,7 +201,7 @@ impl Source<'_> {
     // The leading 0, and the new names.
     fn put_strings(&self, out: &mut [u8], at: usize) -> Result<usize, Refusal>
         ensures { put_out result out.new
-            ≡ put_text out.old (Ok at) (whole (at_kept strings_bytes self.now.kept (type_count self.now.kept.table.head))) }
+            ≡ put_text out.old (Ok at) (whole (at_kept strings_bytes self.now.kept (type_count self.now.kept.index.table.head))) }
     {
         let p = put_byte(out, at, 0)?;
         self.put_part(Part::Names, out, p)
@@ -176,10 +212,10 @@ impl Source<'_> {
         ensures { put_out result out.new
             ≡ put_text out.old (Ok 0) (whole (at_kept all_bytes self.now.kept self.now.bases.now sizes.types sizes.strings)) }
     {
-        let flags = peek(self.kept.table.section, 3, 0);
+        let flags = peek(self.kept.index.table.section, 3, 0);
         let p = put_head(
             out,
-            self.kept.table.head.big_endian,
+            self.kept.index.table.head.big_endian,
             flags,
             sizes.types,
             sizes.strings,
@@ -190,8 +226,8 @@ impl Source<'_> {
 
     fn write_fitting(&self, sizes: Sizes, out: &mut [u8]) -> Option<u32>
         requires { (sizes.types ≤ 16777216) × (sizes.strings ≤ 16777216)
-            × (sizes.types ≡ at_kept types_size self.now.kept (type_count self.now.kept.table.head))
-            × (sizes.strings ≡ at_kept base_of self.now.kept (type_count self.now.kept.table.head)) }
+            × (sizes.types ≡ at_kept types_size self.now.kept (type_count self.now.kept.index.table.head))
+            × (sizes.strings ≡ at_kept base_of self.now.kept (type_count self.now.kept.index.table.head)) }
         ensures { wrote_of result out.new ≡ at_kept fitting_written self.now.kept self.now.bases.now sizes.types sizes.strings out.old }
     {
         let len = 24 + sizes.types + sizes.strings;
@@ -212,11 +248,11 @@ impl Source<'_> {
 pub fn write_kept(kept: &Kept, out: &mut [u8]) -> Option<u32>
     ensures { wrote_of result out.new ≡ at_kept kept_written kept.now out.old }
 {
-    if limit::MOST_BYTES < kept.table.section.len() {
+    if limit::MOST_BYTES < kept.index.table.section.len() {
         return None;
     }
     let mut bases = [0u32; limit::TYPES_LEN];
-    let mut table = [0u64; SLOTS_LEN];
+    let mut table = [Slot::FREE; SLOTS_LEN];
     let strings = kept.fill_table(&mut table, &mut bases);
     let types = types_size(kept);
     if limit::MOST_BYTES_32 < strings {

@@ -14,7 +14,7 @@ use Rattle.btf_open_causes.specs.references.Followed.{type_count, entry_at}
 use Rattle.btf_open_names.specs.name_classes.Table.{hash_from}
 use Rattle.spec_cut.proofs.section.Names.{same_bytes_lem}
 use Rattle.session_cut_marks.specs.roles.Words.{role, words_in, word_of}
-use Rattle.session_cut_marks.proofs.roles.Laws.{get_past}
+use Rattle.std.proofs.lemmas.List.{get_or_past}
 use Rattle.session_cut_marks.specs.mentioned.Names.{is_new, new_sizes, base_of, place_of}
 use Rattle.session_cut_marks.specs.interned.Slots.{probe, slot_of, found}
 use Rattle.session_cut_marks.specs.interned.Right.{all_bases, Right, StringKept}
@@ -33,7 +33,7 @@ module _ (b : TypeTable) (s start ids t : List ℕ) (right : Right b s start ids
       m z = n (e ∙ z)
 
       in_table : i < 262144
-      in_table = elim (compare 262144 i) [ below h ↦ absurd (m (get_past t i 0 (omega (arith, h, right.long)))) | above h ↦ h ]
+      in_table = elim (compare 262144 i) [ below h ↦ absurd (m (get_or_past t i 0 (omega (arith, h, right.long)))) | above h ↦ h ]
 
   -- the length before a kept type
   pub base_kept : (x len : ℕ) (bases : List ℕ) → x < type_count b → bases ≡ all_bases b s start ids → len ≡ get_or bases x 0 → len ≡ base_of b s start ids x

@@ -1,24 +1,64 @@
 -- A law for each return of the code, and for each loop its start, its turn and its end. Assumes nothing.
-use Prim.Native.Nat.{ℕ, zero, suc, ◌+◌, ◌-◌, ◌*◌, ◌/◌, ◌%◌, ◌<◌, ◌≤◌}
-use Rattle.std.proofs.Common.{Some, None}
+use Prim.Native.Nat.{ℕ, zero, suc, ◌+◌, ◌*◌, ◌/◌, ◌%◌, ◌<◌, ◌≤◌}
+use Rattle.std.proofs.lemmas.Bool.{not-true, not-false}
+use Rattle.std.proofs.Common.{Option, Some, None}
+use Rattle.std.specs.List.{find, range_with_len}
+use Rattle.std.specs.Option.{option_map, unwrap_or}
 use native.Mathlib.Omega.{arith}
 use native.Mathlib.Numerals.{add-one}
 use mathlib.Core.Path.{◌≡◌, refl, sym, ◌∙◌, ap}
-use mathlib.Core.Bool.{Bool, true, false, not}
-use mathlib.Core.List.{List, [], ◌∷◌}
-use lib.ListN.{length, get_or, set}
+use mathlib.Core.Bool.{Bool, true, false, cond, not, true≢false}
+use mathlib.Core.List.{List, map}
+use lib.ListN.{length, get_or, set, replicate}
+use lib.Dec.{eqb}
+use lib.LanesLaws.{map-replicate}
 use borrow.Author.Tests.{eq-eqb, ne_eqb, lt-ltb, le-ltb}
+use Rattle.std.proofs.lemmas.Bool.{eqb-true}
+use Rattle.std.proofs.Math.ListN.{get_or-map}
+use Rattle.std.proofs.lemmas.List.{map-set, length-map}
 use Rattle.spec_c_dumper.specs.rules.Types.{is_empty}
 use Rattle.spec_c_dumper.specs.rules.Names.{same_bytes}
 use Rattle.spec_type_table.specs.declared.types.TypeTable.{TypeTable}
 use Rattle.spec_type_table.specs.Names.{str_at}
 use Rattle.btf_open_causes.specs.references.Followed.{type_count, entry_at}
 use Rattle.btf_open_names.specs.name_classes.Table.{hash_from}
+use Rattle.session_cut_marks.specs.declared.interned.slots.Slot.{Slot}
 use Rattle.session_cut_marks.specs.roles.Words.{role, words_in, word_of}
-use Rattle.session_cut_marks.specs.mentioned.Names.{is_new, new_size}
-use Rattle.session_cut_marks.proofs.mentioned.Laws.{flip_true, flip_false, name_short}
-use Rattle.session_cut_marks.specs.interned.Slots.{stops, probe, slot_of, found, slot_place}
-use Rattle.session_cut_marks.specs.interned.Filled.{Filled, filled_of, length_of, after, settled, entered, entered_to, entered_type, filled_to, lengths_to, filling_of, filling}
+use Rattle.session_cut_marks.specs.mentioned.Names.{is_new, new_size, zero_bases}
+use Rattle.session_cut_marks.proofs.mentioned.Laws.{name_short, same_option}
+use Rattle.session_cut_marks.specs.interned.Slots.{slot_word, slot_words, stops, probe, slot_of, found, slot_place}
+use Rattle.session_cut_marks.specs.interned.Filled.{zero_table, Filled, filled_of, length_of, after, settled, entered, entered_to, entered_type, filled_to, lengths_to, filling_of, filling}
+
+-- ---- the slots of the code as numbers
+module _ (t : List Slot) (i : ℕ) where
+  pub word_at : (v : Slot) → v ≡ get_or t i (record { off = 0; place = 0 }) → slot_word v ≡ get_or (slot_words t) i 0
+  unfolding slot_word slot_words
+  word_at v k = ap slot_word k ∙ sym (get_or-map slot_word t i (record { off = 0; place = 0 }))
+
+  pub word_set : (v : Slot) → slot_words (set t i v) ≡ set (slot_words t) i (slot_word v)
+  unfolding slot_words
+  word_set v = map-set slot_word t i v
+
+pub words_length : (t : List Slot) → length (slot_words t) ≡ length t
+unfolding slot_words
+words_length t = length-map t slot_word
+
+module _ (v : Slot) where
+  module _ (q : Bool) (g : q ≡ eqb (slot_word v) 0) where
+    pub word_free : q ≡ true → slot_word v ≡ 0
+    word_free h = eqb-true (slot_word v) 0 (sym g ∙ h)
+
+    pub word_taken : q ≡ false → slot_word v ≡ 0 → ⊥
+    word_taken h z = true≢false (sym (eq-eqb (slot_word v) 0 z) ∙ sym g ∙ h)
+
+  module _ (l : v.off < 4294967296) where
+    pub word_off : slot_word v % 4294967296 ≡ v.off
+    unfolding slot_word
+    word_off = omega (arith, l)
+
+    pub word_place : Some v.place ≡ Some (slot_word v / 4294967296)
+    unfolding slot_word
+    word_place = let e : v.place ≡ (v.off + v.place * 4294967296) / 4294967296 = omega (arith, l) in ap Some e
 
 some_place : (v : ℕ) → (v ≡ 0 → ⊥) → slot_place v ≡ Some (v / 4294967296)
 unfolding slot_place
@@ -36,32 +76,27 @@ module _ (b : TypeTable) (s t : List ℕ) where
     unfolding stops
     stops_name z r h = h ∙ ap (λ (u : ℕ). same_bytes (str_at b s (u % 4294967296)) name) k ∙ rw (ne_eqb (get_or t i 0) 0 (λ u. z (k ∙ u)), stops)
 
-  pub probe_start : (off i : ℕ) → i ≡ hash_from 0 (str_at b s off) → slot_of b s t off ≡ probe b s t (str_at b s off) (i % 262144) 262144
-  unfolding slot_of
-  probe_start off i e = ap (λ (h : ℕ). probe b s t (str_at b s off) (h % 262144) 262144) (sym e)
+  -- a name's way: from its hash on, one slot after the other, and from the last to the first
+  abbrev way : ℕ → ℕ → List ℕ
+  way a k = map (λ (i : ℕ). i % 262144) (range_with_len a k)
 
-  probe_suc : (name : List ℕ) (i k : ℕ) → 0 < k → probe b s t name i k ≡ elim (stops b s t name i) as (λ z. ℕ) [ true ↦ i | false ↦ probe b s t name ((i + 1) % 262144) (k - 1) ]
+  probe_way : (name : List ℕ) (k a : ℕ) → unwrap_or (find (stops b s t name) (way a k)) 262144 ≡ probe b s t name (a % 262144) k
   unfolding probe
-  probe_suc name i k l = let z : k ≡ suc (k - 1) = omega (arith, l) in ap (probe b s t name i) z
+  probe_way name zero a = refl
+  probe_way name (suc k) a = go (stops b s t name (a % 262144)) (probe_way name k (a + 1))
+    where
+      go : (q : Bool) → unwrap_or (find (stops b s t name) (way (a + 1) k)) 262144 ≡ probe b s t name ((a + 1) % 262144) k
+          → unwrap_or (cond q (Some (a % 262144)) (find (stops b s t name) (way (a + 1) k))) 262144 ≡ elim q as (λ z. ℕ) [ true ↦ a % 262144 | false ↦ probe b s t name ((a % 262144 + 1) % 262144) k ]
+      go true h = refl
+      go false h = let w : (a + 1) % 262144 ≡ (a % 262144 + 1) % 262144 = omega arith in h ∙ ap (λ (u : ℕ). probe b s t name u k) w
 
-  -- turn n, of 262144
-  module _ (off i n : ℕ) (h : slot_of b s t off ≡ probe b s t (str_at b s off) i (262144 - n)) where
-    module _ (l : n < 262144) (q : Bool) (g : q ≡ stops b s t (str_at b s off) i) where
-      one_on : slot_of b s t off ≡ elim q as (λ u. ℕ) [ true ↦ i | false ↦ probe b s t (str_at b s off) ((i + 1) % 262144) (262144 - (n + 1)) ]
-      one_on =
-          let z : 262144 - n - 1 ≡ 262144 - (n + 1) = omega arith in
-          h ∙ probe_suc (str_at b s off) i (262144 - n) (omega (arith, l))
-          ∙ (λ w. elim (sym g w) as (λ u. ℕ) [ true ↦ i | false ↦ probe b s t (str_at b s off) ((i + 1) % 262144) (z w) ])
-
-      pub probe_here : q ≡ true → i ≡ slot_of b s t off
-      probe_here y = sym (one_on ∙ ap (λ (c : Bool). elim c as (λ u. ℕ) [ true ↦ i | false ↦ probe b s t (str_at b s off) ((i + 1) % 262144) (262144 - (n + 1)) ]) y)
-
-      pub probe_on : q ≡ false → slot_of b s t off ≡ probe b s t (str_at b s off) ((i + 1) % 262144) (262144 - (n + 1))
-      probe_on y = one_on ∙ ap (λ (c : Bool). elim c as (λ u. ℕ) [ true ↦ i | false ↦ probe b s t (str_at b s off) ((i + 1) % 262144) (262144 - (n + 1)) ]) y
-
-    pub probe_none : 262144 ≤ n → 262144 ≡ slot_of b s t off
-    unfolding probe
-    probe_none l = let z : 262144 - n ≡ 0 = omega (arith, l) in sym (h ∙ ap (probe b s t (str_at b s off) i) z)
+  pub slot_way : (off h : ℕ) (r : Option ℕ) → h ≡ hash_from 0 (str_at b s off) → option_map (λ y. y) r ≡ find (stops b s t (str_at b s off)) (way (h % 262144) 262144) → unwrap_or r 262144 ≡ slot_of b s t off
+  unfolding slot_of
+  slot_way off h r e f =
+      let w : h % 262144 % 262144 ≡ h % 262144 = omega arith in
+      ap (λ (o : Option ℕ). unwrap_or o 262144) (sym (same_option r) ∙ f) ∙ probe_way (str_at b s off) 262144 (h % 262144)
+      ∙ ap (λ (u : ℕ). probe b s t (str_at b s off) u 262144) w
+      ∙ ap (λ (u : ℕ). probe b s t (str_at b s off) (u % 262144) 262144) e
 
   module _ (off i v : ℕ) (e : i ≡ slot_of b s t off) (g : v ≡ get_or t i 0) where
     found_is : v ≡ found b s t off
@@ -76,21 +111,17 @@ module _ (b : TypeTable) (s t : List ℕ) where
     found_some n = sym (some_place v n) ∙ ap slot_place found_is
 
 -- ---- the table filled
-pub set_past : (l : List ℕ) (i v : ℕ) → length l ≤ i → l ≡ set l i v
-set_past [] i v h = refl
-set_past (x ∷ l) zero v h = absurd (omega (arith, h))
-set_past (x ∷ l) (suc i) v h = ap (λ (r : List ℕ). x ∷ r) (set_past l i v (omega (arith, h)))
 
 module _ (b : TypeTable) (s start ids : List ℕ) where
   module _ (x e j : ℕ) where
     module _ (q : Bool) (g : q ≡ is_new b s start ids x e j) where
       pub size_none : not q ≡ true → 0 ≡ new_size b s start ids x e j
       unfolding new_size
-      size_none h = rw (sym g ∙ flip_true q h, new_size)
+      size_none h = rw (sym g ∙ not-true q h, new_size)
 
       pub size_is : not q ≡ false → (off : ℕ) → off ≡ word_of b s e j → (r : ℕ) → r ≡ length (str_at b s off) + 1 → r ≡ new_size b s start ids x e j
       unfolding new_size
-      size_is h off f r p = p ∙ ap (λ (o : ℕ). length (str_at b s o) + 1) f ∙ rw (sym g ∙ flip_false q h, new_size)
+      size_is h off f r p = p ∙ ap (λ (o : ℕ). length (str_at b s o) + 1) f ∙ rw (sym g ∙ not-false q h, new_size)
 
     pub size_few : length s ≤ 16777216 → (r : ℕ) → r ≡ new_size b s start ids x e j → r ≤ 16777217
     unfolding new_size
@@ -192,3 +223,10 @@ module _ (b : TypeTable) (s start ids : List ℕ) where
         let z : x ≡ n = omega (arith, a, d) in
         (λ i. filling_of ((h ∙ ap (filled_to b s start ids t) (z ∙ c)) i) ((g ∙ ap (lengths_to b s start ids t l) (z ∙ c)) i))
         ∙ rw (le-ltb 16777216 (length s) k, filling)
+
+-- a table of free slots has nothing in it
+module _ (b : TypeTable) (s start ids : List ℕ) where
+  pub from_free : (len : ℕ) (t l : List ℕ) → filling_of (filled_of len t) l ≡ filling b s start ids (slot_words (replicate 262144 (record { off = 0; place = 0 }))) zero_bases
+      → filling_of (filled_of len t) l ≡ filling b s start ids zero_table zero_bases
+  unfolding zero_table slot_words slot_word
+  from_free len t l h = h ∙ ap (λ (u : List ℕ). filling b s start ids u zero_bases) (map-replicate slot_word 262144 (record { off = 0; place = 0 }))

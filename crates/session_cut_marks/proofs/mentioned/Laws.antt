@@ -1,13 +1,15 @@
 -- A law for each return of the code, and for each loop its start, its turn and its end. Assumes nothing.
-use Prim.Native.Nat.{ℕ, zero, suc, ◌+◌, ◌-◌, ◌%◌, ◌<◌, ◌≤◌}
+use Prim.Native.Nat.{ℕ, zero, suc, ◌+◌, ◌%◌, ◌≤◌}
 use native.Mathlib.Omega.{arith}
 use mathlib.Core.Path.{◌≡◌, refl, sym, ◌∙◌, ap}
-use mathlib.Core.Bool.{Bool, true, false, not, ◌&&◌, ◌||◌, true≢false}
+use mathlib.Core.Bool.{Bool, true, false, cond, not, ◌&&◌, ◌||◌}
 use mathlib.Core.List.{List, [], ◌∷◌}
 use lib.ListN.{length, get_or, drop, length-drop}
 use lib.Dec.{eqb}
 use lib.Pointwise.{pointwise}
-use Rattle.std.specs.List.{list_any, range_with_len}
+use Rattle.std.specs.List.{list_any, find, range_with_len}
+use Rattle.std.specs.Option.{option_map}
+use Rattle.std.proofs.Common.{Option, Some, None}
 use borrow.Author.Tests.{eq-eqb, ne_eqb}
 use Rattle.spec_c_dumper.specs.rules.Types.{is_empty}
 use Rattle.spec_c_dumper.specs.rules.Names.{same_bytes}
@@ -15,15 +17,7 @@ use Rattle.spec_type_table.specs.declared.types.TypeTable.{TypeTable}
 use Rattle.spec_type_table.specs.Names.{up_to_zero, name_at, str_at}
 use Rattle.btf_open_causes.specs.references.Followed.{entry_at}
 use Rattle.session_cut_marks.specs.roles.Words.{role, words_in, word_of}
-use Rattle.session_cut_marks.specs.mentioned.Names.{is_name, or_name, named_to, first_from, mentions, or_mentions, mentioned_to, is_new}
-
-pub flip_true : (q : Bool) → not q ≡ true → q ≡ false
-flip_true true h = absurd (true≢false (sym h))
-flip_true false h = refl
-
-pub flip_false : (q : Bool) → not q ≡ false → q ≡ true
-flip_false true h = refl
-flip_false false h = absurd (true≢false h)
+use Rattle.session_cut_marks.specs.mentioned.Names.{is_name, or_name, named_to, first_from, first_name, mentions, or_mentions, mentioned_to, is_new}
 
 or_false : (p : Bool) → (p || false) ≡ p
 or_false true = refl
@@ -72,6 +66,10 @@ any_last test a (suc n) =
 any_from_0 : (test : ℕ → Bool) (n : ℕ) → list_any test (range_with_len 0 (suc n)) ≡ (list_any test (range_with_len 0 n) || test n)
 any_from_0 test n = let z : 0 + n ≡ n = omega arith in any_last test 0 n ∙ ap (λ (k : ℕ). list_any test (range_with_len 0 n) || test k) z
 
+pub same_option : (r : Option ℕ) → option_map (λ y. y) r ≡ r
+same_option None = refl
+same_option (Some x) = refl
+
 module _ (b : TypeTable) (s : List ℕ) where
   pub name_short : (off : ℕ) → length (str_at b s off) ≤ length s
   unfolding name_at
@@ -98,29 +96,32 @@ module _ (b : TypeTable) (s : List ℕ) where
   any_named e off (suc n) = any_from_0 (is_name b s e off) n ∙ ap (λ (q : Bool). q || is_name b s e off n) (any_named e off n) ∙ or_is (named_to b s e off n) (is_name b s e off n)
 
   -- the first word with a name
-  first_suc : (e off j n : ℕ) → j < n → first_from b s e off j (n - j) ≡ elim (is_name b s e off j) as (λ z. ℕ) [ true ↦ j | false ↦ first_from b s e off (j + 1) (n - (j + 1)) ]
+  -- the first of the words from j on, one more than n
+  more_range : (e off j n : ℕ) → find (is_name b s e off) (range_with_len (j + 1) n)
+      ≡ elim (list_any (is_name b s e off) (range_with_len (j + 1) n)) as (λ z. Option ℕ) [ true ↦ Some (first_from b s e off (j + 1) n) | false ↦ None ]
+      → find (is_name b s e off) (range_with_len j (suc n))
+      ≡ elim (list_any (is_name b s e off) (range_with_len j (suc n))) as (λ z. Option ℕ) [ true ↦ Some (first_from b s e off j (suc n)) | false ↦ None ]
   unfolding first_from
-  first_suc e off j n l =
-      let z : n - j ≡ suc (n - (j + 1)) = omega (arith, l) in
-      let w : suc j ≡ j + 1 = omega arith in
-      ap (first_from b s e off j) z ∙ ap (λ (k : ℕ). elim (is_name b s e off j) as (λ u. ℕ) [ true ↦ j | false ↦ first_from b s e off k (n - (j + 1)) ]) w
+  more_range e off j n h = go (is_name b s e off j)
+    where
+      w : j + 1 ≡ suc j
+      w = omega arith
 
-  pub first_start : (e off n : ℕ) → first_from b s e off 0 n ≡ first_from b s e off 0 (n - 0)
-  first_start e off n = let z : n ≡ n - 0 = omega arith in ap (first_from b s e off 0) z
+      go : (q : Bool) → cond q (Some j) (find (is_name b s e off) (range_with_len (j + 1) n))
+          ≡ elim (q || list_any (is_name b s e off) (range_with_len (j + 1) n)) as (λ z. Option ℕ) [ true ↦ Some (elim q as (λ z. ℕ) [ true ↦ j | false ↦ first_from b s e off (suc j) n ]) | false ↦ None ]
+      go true = refl
+      go false = h ∙ ap (λ (k : ℕ). elim (list_any (is_name b s e off) (range_with_len (j + 1) n)) as (λ z. Option ℕ) [ true ↦ Some (first_from b s e off k n) | false ↦ None ]) w
 
-  module _ (e off j n : ℕ) (l : j < n) (h : first_from b s e off 0 n ≡ first_from b s e off j (n - j)) (q : Bool) (g : q ≡ is_name b s e off j) where
-    pub first_here : q ≡ true → j ≡ first_from b s e off 0 n
-    first_here z = sym (h ∙ first_suc e off j n l ∙ ap (λ (c : Bool). elim c as (λ u. ℕ) [ true ↦ j | false ↦ first_from b s e off (j + 1) (n - (j + 1)) ]) (sym g ∙ z))
+  first_of_range : (e off j n : ℕ) → find (is_name b s e off) (range_with_len j n)
+      ≡ elim (list_any (is_name b s e off) (range_with_len j n)) as (λ z. Option ℕ) [ true ↦ Some (first_from b s e off j n) | false ↦ None ]
+  first_of_range e off j zero = refl
+  first_of_range e off j (suc n) = more_range e off j n (first_of_range e off (j + 1) n)
 
-    pub first_on : q ≡ false → first_from b s e off 0 n ≡ first_from b s e off (j + 1) (n - (j + 1))
-    first_on z = h ∙ first_suc e off j n l ∙ ap (λ (c : Bool). elim c as (λ u. ℕ) [ true ↦ j | false ↦ first_from b s e off (j + 1) (n - (j + 1)) ]) (sym g ∙ z)
-
-  pub first_none : (e off j n : ℕ) → j ≤ n → n ≤ j → first_from b s e off 0 n ≡ first_from b s e off j (n - j) → n ≡ first_from b s e off 0 n
-  unfolding first_from
-  first_none e off j n g l h =
-      let z : n - j ≡ 0 = omega (arith, l) in
-      let w : j ≡ n = omega (arith, g, l) in
-      sym (h ∙ ap (first_from b s e off j) z ∙ w)
+  pub first_found : (e off n : ℕ) (r : Option ℕ) → option_map (λ y. y) r ≡ find (is_name b s e off) (range_with_len 0 n) → r ≡ first_name b s e off n
+  unfolding first_name
+  first_found e off n r h =
+      sym (same_option r) ∙ h ∙ first_of_range e off 0 n
+      ∙ ap (λ (q : Bool). elim q as (λ z. Option ℕ) [ true ↦ Some (first_from b s e off 0 n) | false ↦ None ]) (any_named e off n)
 
   module _ (start ids : List ℕ) where
     module _ (off y v : ℕ) (k : v ≡ get_or ids y 0) where

@@ -4,19 +4,18 @@ use native.Mathlib.Omega.{arith}
 use native.Mathlib.Nat.{mul-le-mul_right}
 use mathlib.Core.Path.{◌≡◌, refl, sym, ◌∙◌, ap}
 use mathlib.Core.List.{List, [], ◌∷◌}
-use lib.ListN.{length, get_or}
+use mathlib.Core.Logic.{⊎_elim}
+use lib.ListN.{length}
 use borrow.Author.Tests.{eq-eqb, ne_eqb, lt-ltb, le-ltb}
+use Rattle.std.proofs.lemmas.List.{get_or_past}
 use Rattle.spec_bytes.specs.text.Text.{ascii}
+use Rattle.spec_bytes.proofs.words.Laws.{le_or_lt}
+use Rattle.spec_type_table.proofs.KindLaws.{by_kind}
 use Rattle.spec_type_table.specs.declared.types.TypeTable.{TypeTable}
 use Rattle.spec_type_table.specs.Records.{section_word, vlen_of}
-use Rattle.session_cut_marks.specs.roles.Words.{digit_at, fixed_words, entry_words, roles, column, role, role_of, words_in}
+use Rattle.session_cut_marks.specs.roles.Words.{digit_at, fixed_words, entry_words, roles, column, role, role_of, words_in, word_of}
 use Rattle.session_cut_marks.specs.declared.roles.Role.{Role}
 use Rattle.session_cut_marks.specs.declared.roles.Role.TheVariants.{Name, Id, Plain}
-
-pub get_past : (l : List ℕ) (i d : ℕ) → length l ≤ i → get_or l i d ≡ d
-get_past [] i d h = refl
-get_past (x ∷ l) zero d h = absurd (omega (arith, h))
-get_past (x ∷ l) (suc i) d h = get_past l i d (omega (arith, h))
 
 -- no digit is above 9
 abbrev Digits : List ℕ → Type 0
@@ -29,7 +28,7 @@ digits_few [] h i = omega arith
 digits_few (x ∷ l) h zero = omega (arith, h.0)
 digits_few (x ∷ l) h (suc i) = digits_few l h.1 i
 
-fixed_few : (k : ℕ) → fixed_words k ≤ 9
+pub fixed_few : (k : ℕ) → fixed_words k ≤ 9
 unfolding fixed_words
 fixed_few k = digits_few (ascii "34363333333333433433") (omega arith, (omega arith, (omega arith, (omega arith, (omega arith, (omega arith, (omega arith, (omega arith, (omega arith, (omega arith, (omega arith, (omega arith, (omega arith, (omega arith, (omega arith, (omega arith, (omega arith, (omega arith, (omega arith, (omega arith, tt)))))))))))))))))))) k
 
@@ -37,35 +36,148 @@ entry_few : (k : ℕ) → entry_words k ≤ 9
 unfolding entry_words
 entry_few k = digits_few (ascii "00003320000002030003") (omega arith, (omega arith, (omega arith, (omega arith, (omega arith, (omega arith, (omega arith, (omega arith, (omega arith, (omega arith, (omega arith, (omega arith, (omega arith, (omega arith, (omega arith, (omega arith, (omega arith, (omega arith, (omega arith, (omega arith, tt)))))))))))))))))))) k
 
-module _ (per j : ℕ) where
-  pub column_low : j < 3 → j ≡ column per j
+-- ---- columns
+module _ (per j : ℕ) (l : 3 ≤ j) where
+  column_two : per ≡ 2 → 3 + (j - 3) % 2 ≡ column per j
   unfolding column
-  column_low h = rw (lt-ltb j 3 h, column)
+  column_two z = rw (le-ltb j 3 l, column, eq-eqb per 2 z)
 
-  module _ (l : 3 ≤ j) where
-    pub column_flat : per ≡ 0 → j ≡ column per j
-    unfolding column
-    column_flat z = rw (le-ltb j 3 l, column, eq-eqb per 0 z)
+  column_three : (per ≡ 2 → ⊥) → 3 + (j - 3) % 3 ≡ column per j
+  unfolding column
+  column_three z = rw (le-ltb j 3 l, column, ne_eqb per 2 z)
 
-    module _ (n : per ≡ 0 → ⊥) where
-      pub column_two : per ≡ 2 → 3 + (j - 3) % 2 ≡ column per j
-      unfolding column
-      column_two z = rw (le-ltb j 3 l, column, ne_eqb per 0 n, eq-eqb per 2 z)
+-- a record without entries has six words at most: each has a column of its own
+pub column_flat : (j : ℕ) → j < 6 → j ≡ column 0 j
+unfolding column
+column_flat j l = ⊎_elim (λ h. let z : j ≡ 3 + (j - 3) % 3 = omega (arith, h, l) in z ∙ column_three 0 j h (λ e. omega (arith, e))) (λ h. rw (lt-ltb j 3 h, column)) (le_or_lt 3 j)
 
-      pub column_three : (per ≡ 2 → ⊥) → 3 + (j - 3) % 3 ≡ column per j
-      unfolding column
-      column_three z = rw (le-ltb j 3 l, column, ne_eqb per 0 n, ne_eqb per 2 z)
+-- ---- words by kind
+module _ (k n : ℕ) where
+  two : entry_words k ≡ 2 → role_of (digit_at roles (k * 6 + (3 + n % 2))) ≡ role_of (role k (3 + n))
+  unfolding role
+  two h =
+      let l : 3 ≤ 3 + n = omega arith in
+      let y : n ≡ 3 + n - 3 = omega arith in
+      ap (λ (c : ℕ). role_of (digit_at roles (k * 6 + c))) (ap (λ (u : ℕ). 3 + u % 2) y ∙ column_two (entry_words k) (3 + n) l h)
 
-pub role_is : (kind j per col r : ℕ) → per ≡ entry_words kind → col ≡ column per j → r ≡ digit_at roles (kind * 6 + col) → r ≡ role kind j
-unfolding role
-role_is kind j per col r e f g = g ∙ ap (λ (k : ℕ). digit_at roles (kind * 6 + k)) (f ∙ ap (λ (p : ℕ). column p j) e)
+  three : (entry_words k ≡ 2 → ⊥) → role_of (digit_at roles (k * 6 + (3 + n % 3))) ≡ role_of (role k (3 + n))
+  unfolding role
+  three h =
+      let l : 3 ≤ 3 + n = omega arith in
+      let y : n ≡ 3 + n - 3 = omega arith in
+      ap (λ (c : ℕ). role_of (digit_at roles (k * 6 + c))) (ap (λ (u : ℕ). 3 + u % 3) y ∙ column_three (entry_words k) (3 + n) l h)
 
-pub role_plain : (d : ℕ) → (d ≡ 1 → ⊥) → (d ≡ 2 → ⊥) → Plain ≡ role_of d
-unfolding role_of
-role_plain zero n m = refl
-role_plain (suc zero) n m = absurd (n refl)
-role_plain (suc (suc zero)) n m = absurd (m refl)
-role_plain (suc (suc (suc d))) n m = refl
+-- a kind y, and word c of its entries
+module _ (y c k n : ℕ) (e : k ≡ y) where
+  pub two_of : entry_words y ≡ 2 → n % 2 ≡ c → role_of (digit_at roles (y * 6 + (3 + c))) ≡ role_of (role k (3 + n))
+  two_of h g = (λ i. role_of (digit_at roles (sym e i * 6 + (3 + sym g i)))) ∙ two k n (ap entry_words e ∙ h)
+
+  pub three_of : (entry_words y ≡ 2 → ⊥) → n % 3 ≡ c → role_of (digit_at roles (y * 6 + (3 + c))) ≡ role_of (role k (3 + n))
+  three_of h g = (λ i. role_of (digit_at roles (sym e i * 6 + (3 + sym g i)))) ∙ three k n (λ z. h (sym (ap entry_words e) ∙ z))
+
+pub not_two : ◌≡◌ {A = ℕ} 3 2 → ⊥
+not_two e = omega (arith, e)
+
+pub none_two : ◌≡◌ {A = ℕ} 0 2 → ⊥
+none_two e = omega (arith, e)
+
+-- two words of three that are the same
+pub first_two : (y k n : ℕ) (r : Role) → k ≡ y → (entry_words y ≡ 2 → ⊥) → (n % 3 ≡ 2 → ⊥) → r ≡ role_of (digit_at roles (y * 6 + 3)) → r ≡ role_of (digit_at roles (y * 6 + 4)) → r ≡ role_of (role k (3 + n))
+first_two y k n r e h g a b =
+    ⊎_elim (λ l. let c : n % 3 ≡ 1 = omega (arith, l, g) in b ∙ three_of y 1 k n e h c) (λ l. let c : n % 3 ≡ 0 = omega (arith, l) in a ∙ three_of y 0 k n e h c) (le_or_lt 1 (n % 3))
+
+pub last_two : (y k n : ℕ) (r : Role) → k ≡ y → (entry_words y ≡ 2 → ⊥) → (n % 3 ≡ 0 → ⊥) → r ≡ role_of (digit_at roles (y * 6 + 4)) → r ≡ role_of (digit_at roles (y * 6 + 5)) → r ≡ role_of (role k (3 + n))
+last_two y k n r e h g a b =
+    ⊎_elim (λ l. let c : n % 3 ≡ 2 = omega (arith, l) in b ∙ three_of y 2 k n e h c) (λ l. let c : n % 3 ≡ 1 = omega (arith, l, g) in a ∙ three_of y 1 k n e h c) (le_or_lt 2 (n % 3))
+
+-- a record without entries
+flat : (y n : ℕ) → (entry_words y ≡ 2 → ⊥) → Plain ≡ role_of (digit_at roles (y * 6 + 3)) → Plain ≡ role_of (digit_at roles (y * 6 + 4)) → Plain ≡ role_of (digit_at roles (y * 6 + 5)) → Plain ≡ role_of (role y (3 + n))
+flat y n h a b d =
+    ⊎_elim (λ l. let c : n % 3 ≡ 2 = omega (arith, l) in d ∙ three_of y 2 y n refl h c) (λ l. first_two y y n Plain refl h (λ c. omega (arith, l, c)) a b) (le_or_lt 2 (n % 3))
+
+-- a number that is no kind
+past : (l : List ℕ) (i : ℕ) → length l ≤ i → digit_at l i ≡ 0
+unfolding digit_at
+past l i h = ap (λ (d : ℕ). d - 48) (get_or_past l i 48 h)
+
+pub fixed_past : (k : ℕ) → 20 ≤ k → 0 ≡ fixed_words k
+unfolding fixed_words
+fixed_past k l = sym (past (ascii "34363333333333433433") k l)
+
+entry_past : (k : ℕ) → 20 ≤ k → 0 ≡ entry_words k
+unfolding entry_words
+entry_past k l = sym (past (ascii "00003320000002030003") k l)
+
+pub role_past : (k j : ℕ) → 20 ≤ k → Plain ≡ role_of (role k j)
+unfolding role roles role_of
+role_past k j l = sym (ap role_of (past roles (k * 6 + column (entry_words k) j) (omega (arith, l))))
+
+pub fixed_rest : (k : ℕ) → (k ≡ 1 → ⊥) → (k ≡ 14 → ⊥) → (k ≡ 17 → ⊥) → (k ≡ 3 → ⊥) → (20 ≤ k → ⊥) → 3 ≡ fixed_words k
+unfolding fixed_words digit_at
+fixed_rest =
+    by_kind
+    (λ k. (k ≡ 1 → ⊥) → (k ≡ 14 → ⊥) → (k ≡ 17 → ⊥) → (k ≡ 3 → ⊥) → (20 ≤ k → ⊥) → 3 ≡ fixed_words k)
+    (λ a b c d e. refl) (λ a b c d e. absurd (a refl)) (λ a b c d e. refl) (λ a b c d e. absurd (d refl))
+    (λ a b c d e. refl) (λ a b c d e. refl) (λ a b c d e. refl) (λ a b c d e. refl) (λ a b c d e. refl) (λ a b c d e. refl)
+    (λ a b c d e. refl) (λ a b c d e. refl) (λ a b c d e. refl) (λ a b c d e. refl) (λ a b c d e. absurd (b refl)) (λ a b c d e. refl)
+    (λ a b c d e. refl) (λ a b c d e. absurd (c refl)) (λ a b c d e. refl) (λ a b c d e. refl) (λ k l a b c d e. absurd (e l))
+
+pub entry_rest : (k : ℕ) → (k ≡ 4 → ⊥) → (k ≡ 5 → ⊥) → (k ≡ 15 → ⊥) → (k ≡ 19 → ⊥) → (k ≡ 6 → ⊥) → (k ≡ 13 → ⊥) → 0 ≡ entry_words k
+unfolding entry_words digit_at
+entry_rest =
+    by_kind
+    (λ k. (k ≡ 4 → ⊥) → (k ≡ 5 → ⊥) → (k ≡ 15 → ⊥) → (k ≡ 19 → ⊥) → (k ≡ 6 → ⊥) → (k ≡ 13 → ⊥) → 0 ≡ entry_words k)
+    (λ a b c d e f. refl) (λ a b c d e f. refl) (λ a b c d e f. refl) (λ a b c d e f. refl)
+    (λ a b c d e f. absurd (a refl)) (λ a b c d e f. absurd (b refl)) (λ a b c d e f. absurd (e refl)) (λ a b c d e f. refl)
+    (λ a b c d e f. refl) (λ a b c d e f. refl) (λ a b c d e f. refl) (λ a b c d e f. refl) (λ a b c d e f. refl) (λ a b c d e f. absurd (f refl))
+    (λ a b c d e f. refl) (λ a b c d e f. absurd (c refl)) (λ a b c d e f. refl) (λ a b c d e f. refl) (λ a b c d e f. refl) (λ a b c d e f. absurd (d refl))
+    (λ k l a b c d e f. entry_past k l)
+
+pub name_rest : (k : ℕ) → (k ≡ 0 → ⊥) → (20 ≤ k → ⊥) → Name ≡ role_of (role k 0)
+unfolding entry_words digit_at roles column role role_of
+name_rest =
+    by_kind
+    (λ k. (k ≡ 0 → ⊥) → (20 ≤ k → ⊥) → Name ≡ role_of (role k 0))
+    (λ a b. absurd (a refl)) (λ a b. refl) (λ a b. refl) (λ a b. refl) (λ a b. refl) (λ a b. refl) (λ a b. refl) (λ a b. refl) (λ a b. refl) (λ a b. refl)
+    (λ a b. refl) (λ a b. refl) (λ a b. refl) (λ a b. refl) (λ a b. refl) (λ a b. refl) (λ a b. refl) (λ a b. refl) (λ a b. refl) (λ a b. refl)
+    (λ k l a b. absurd (b l))
+
+pub info_plain : (k : ℕ) → Plain ≡ role_of (role k 1)
+unfolding entry_words digit_at roles column role role_of
+info_plain =
+    by_kind
+    (λ k. Plain ≡ role_of (role k 1))
+    refl refl refl refl refl refl refl refl refl refl refl refl refl refl refl refl refl refl refl refl
+    (λ k l. role_past k 1 l)
+
+pub type_rest : (k : ℕ) → (k ≡ 2 → ⊥) → (k ≡ 8 → ⊥) → (k ≡ 9 → ⊥) → (k ≡ 10 → ⊥) → (k ≡ 11 → ⊥) → (k ≡ 12 → ⊥) → (k ≡ 13 → ⊥) → (k ≡ 14 → ⊥) → (k ≡ 17 → ⊥) → (k ≡ 18 → ⊥) → Plain ≡ role_of (role k 2)
+unfolding entry_words digit_at roles column role role_of
+type_rest =
+    by_kind
+    (λ k. (k ≡ 2 → ⊥) → (k ≡ 8 → ⊥) → (k ≡ 9 → ⊥) → (k ≡ 10 → ⊥) → (k ≡ 11 → ⊥) → (k ≡ 12 → ⊥) → (k ≡ 13 → ⊥) → (k ≡ 14 → ⊥) → (k ≡ 17 → ⊥) → (k ≡ 18 → ⊥) → Plain ≡ role_of (role k 2))
+    (λ a b c d e f g h i j. refl) (λ a b c d e f g h i j. refl) (λ a b c d e f g h i j. absurd (a refl)) (λ a b c d e f g h i j. refl)
+    (λ a b c d e f g h i j. refl) (λ a b c d e f g h i j. refl) (λ a b c d e f g h i j. refl) (λ a b c d e f g h i j. refl)
+    (λ a b c d e f g h i j. absurd (b refl)) (λ a b c d e f g h i j. absurd (c refl)) (λ a b c d e f g h i j. absurd (d refl))
+    (λ a b c d e f g h i j. absurd (e refl)) (λ a b c d e f g h i j. absurd (f refl)) (λ a b c d e f g h i j. absurd (g refl))
+    (λ a b c d e f g h i j. absurd (h refl)) (λ a b c d e f g h i j. refl) (λ a b c d e f g h i j. refl)
+    (λ a b c d e f g h i j. absurd (i refl)) (λ a b c d e f g h i j. absurd (j refl)) (λ a b c d e f g h i j. refl)
+    (λ k l a b c d e f g h i j. role_past k 2 l)
+
+pub plain_rest : (n k : ℕ) → (k ≡ 4 → ⊥) → (k ≡ 5 → ⊥) → (k ≡ 13 → ⊥) → (k ≡ 6 → ⊥) → (k ≡ 19 → ⊥) → (k ≡ 3 → ⊥) → (k ≡ 15 → ⊥) → Plain ≡ role_of (role k (3 + n))
+unfolding entry_words digit_at roles role_of
+plain_rest n =
+    by_kind
+    (λ k. (k ≡ 4 → ⊥) → (k ≡ 5 → ⊥) → (k ≡ 13 → ⊥) → (k ≡ 6 → ⊥) → (k ≡ 19 → ⊥) → (k ≡ 3 → ⊥) → (k ≡ 15 → ⊥) → Plain ≡ role_of (role k (3 + n)))
+    (λ a b c d e f g. flat 0 n none_two refl refl refl) (λ a b c d e f g. flat 1 n none_two refl refl refl) (λ a b c d e f g. flat 2 n none_two refl refl refl)
+    (λ a b c d e f g. absurd (f refl)) (λ a b c d e f g. absurd (a refl)) (λ a b c d e f g. absurd (b refl)) (λ a b c d e f g. absurd (d refl))
+    (λ a b c d e f g. flat 7 n none_two refl refl refl) (λ a b c d e f g. flat 8 n none_two refl refl refl) (λ a b c d e f g. flat 9 n none_two refl refl refl)
+    (λ a b c d e f g. flat 10 n none_two refl refl refl) (λ a b c d e f g. flat 11 n none_two refl refl refl) (λ a b c d e f g. flat 12 n none_two refl refl refl)
+    (λ a b c d e f g. absurd (c refl)) (λ a b c d e f g. flat 14 n none_two refl refl refl) (λ a b c d e f g. absurd (g refl))
+    (λ a b c d e f g. flat 16 n none_two refl refl refl) (λ a b c d e f g. flat 17 n none_two refl refl refl) (λ a b c d e f g. flat 18 n none_two refl refl refl)
+    (λ a b c d e f g. absurd (e refl)) (λ k l a b c d e f g. role_past k (3 + n) l)
+
+pub entry_from : (k j : ℕ) → 3 ≤ j → (r : Role) → r ≡ role_of (role k (3 + (j - 3))) → r ≡ role_of (role k j)
+entry_from k j l r h = let z : 3 + (j - 3) ≡ j = omega (arith, l) in h ∙ ap (λ (i : ℕ). role_of (role k i)) z
 
 -- a word is a name where its digit is 1, and an id where it is 2
 digit_name : (d : ℕ) → role_of d ≡ Name → d ≡ 1
@@ -97,12 +209,17 @@ module _ (r : Role) (d : ℕ) (e : r ≡ role_of d) where
   unfolding role_of
   no_id_digit n h = n (e ∙ ap role_of h)
 
-pub product_few : (g v : ℕ) → g ≤ 255 → v ≤ 65535 → g * v ≤ 16711425
-product_few g v a c = let h : g * v ≤ 255 * v = mul-le-mul_right v a in omega (arith, h, c)
+pub product_few : (k g v : ℕ) → g ≡ entry_words k → v ≤ 65535 → g * v ≤ 589815
+product_few k g v a c = let l : g ≤ 9 = omega (arith, a, entry_few k) in let h : g * v ≤ 9 * v = mul-le-mul_right v l in omega (arith, h, c)
 
-pub words_are : (b : TypeTable) (s : List ℕ) (e f g i v : ℕ) → f ≡ fixed_words (e % 32) → g ≡ entry_words (e % 32) → i ≡ section_word b s (e / 32 + 4) → v ≡ vlen_of i → f + g * v ≡ words_in b s e
+pub words_are : (b : TypeTable) (s : List ℕ) (e f g a i v : ℕ) → f ≡ fixed_words (e % 32) → g ≡ entry_words (e % 32) → a ≡ e / 32 → i ≡ section_word b s (a + 4) → v ≡ vlen_of i → f + g * v ≡ words_in b s e
 unfolding words_in
-words_are b s e f g i v p q h k = λ j. p j + q j * (k ∙ ap vlen_of h) j
+words_are b s e f g a i v p q d h k = λ j. p j + q j * (k ∙ ap vlen_of (h ∙ ap (λ (n : ℕ). section_word b s (n + 4)) d)) j
+
+-- the record stands at the place of its entry
+pub word_is : (b : TypeTable) (s : List ℕ) (e a j i : ℕ) → a ≡ e / 32 → i ≡ section_word b s (a + j * 4) → i ≡ word_of b s e j
+unfolding word_of
+word_is b s e a j i d h = h ∙ ap (λ (n : ℕ). section_word b s (n + j * 4)) d
 
 pub words_few : (b : TypeTable) (s : List ℕ) (e : ℕ) → words_in b s e ≤ 589824
 unfolding words_in

@@ -3,7 +3,7 @@ use Prim.Native.Nat.{ℕ, zero, suc, ◌+◌, ◌/◌, ◌%◌, ◌<◌, ◌≤�
 use native.Mathlib.Omega.{arith}
 use native.Mathlib.Numerals.{add-one}
 use mathlib.Core.Path.{◌≡◌, refl, sym, ◌∙◌, ap, subst}
-use mathlib.Core.Bool.{Bool, true, false}
+use mathlib.Core.Bool.{Bool, true, false, not, true≢false}
 use mathlib.Core.List.{List}
 use lib.ListN.{length, get_or, set}
 use lib.Dec.{ltb, eqb}
@@ -12,9 +12,11 @@ use mathlib.Core.Logic.{⊎_elim}
 use Rattle.spec_bytes.proofs.words.Laws.{le_or_lt}
 use borrow.Author.Tests.{eq-eqb, ne_eqb, lt-ltb, le-ltb}
 use Rattle.spec_type_table.specs.declared.types.TypeTable.{TypeTable}
+use Rattle.std.proofs.lemmas.List.{get_or_past}
 use Rattle.spec_type_table.specs.Records.{section_word}
 use Rattle.btf_open_causes.specs.references.Followed.{type_count, entry_at, kind_at, place_of}
 use Rattle.std.proofs.Common.{Option, Some, None}
+use Rattle.std.specs.Option.{is_some}
 use Rattle.session_cut_marks.specs.tags.Tags.{some_number, tag_on, tagged_at, tagged_to, Numbered, numbered, numbers_in, numbered_at, numbered_to, numbers_of}
 
 pub some_is : (n : ℕ) → (n ≡ 0 → ⊥) → some_number n ≡ Some n
@@ -28,10 +30,31 @@ unfolding some_number
 some_of zero t h = cc
 some_of (suc n) t h = (λ e. cc, cc)
 
+pub none_is : (n : ℕ) → n ≡ 0 → None ≡ some_number n
+unfolding some_number
+none_is n h = rw (h, some_number)
+
+-- the record stands at the place of its entry
+pub target_word : (b : TypeTable) (s : List ℕ) (e a t : ℕ) → a ≡ e / 32 → t ≡ section_word b s (a + 8) → t ≡ section_word b s (e / 32 + 8)
+target_word b s e a t d h = h ∙ ap (λ (n : ℕ). section_word b s (n + 8)) d
+
 none_of : (n : ℕ) → some_number n ≡ None → n ≡ 0
 unfolding some_number
 none_of zero h = refl
 none_of (suc n) h = cc
+
+-- a test of whether there is one
+none_zero : (n : ℕ) → is_some (some_number n) ≡ false → n ≡ 0
+unfolding some_number
+none_zero zero g = refl
+none_zero (suc n) g = absurd (true≢false g)
+
+module _ (r : Option ℕ) (n : ℕ) (e : r ≡ some_number n) (t : Bool) (h : is_some r ≡ not t) where
+  pub is_none_of : t ≡ true → n ≡ 0
+  is_none_of q = none_zero n (ap is_some (sym e) ∙ h ∙ ap not q)
+
+  pub isnt_none_of : t ≡ false → n ≡ 0 → ⊥
+  isnt_none_of q z = true≢false (sym (ap is_some (none_is n z ∙ sym e) ∙ h ∙ ap not q))
 
 module _ (b : TypeTable) (s start : List ℕ) where
   -- ---- tags
@@ -114,13 +137,11 @@ module _ (m : List ℕ) (c x v : ℕ) (q : v ≡ get_or m x 0) where
   unfolding numbered_at
   number_none z = rw (eq-eqb (get_or m x 0) 0 (sym q ∙ z), numbered_at)
 
-  pub number_past : (v ≡ 0 → ⊥) → length m ≤ x → numbered m c ≡ numbered_at (numbered m c) x
+  pub number_next : (v ≡ 0 → ⊥) → numbered (set m x (c + 1)) (c + 1) ≡ numbered_at (numbered m c) x
   unfolding numbered_at
-  number_past z l = rw (ne_eqb (get_or m x 0) 0 (λ u. z (q ∙ u)), numbered_at, le-ltb x (length m) l)
-
-  pub number_next : (v ≡ 0 → ⊥) → x < length m → numbered (set m x (c + 1)) (c + 1) ≡ numbered_at (numbered m c) x
-  unfolding numbered_at
-  number_next z l = rw (ne_eqb (get_or m x 0) 0 (λ u. z (q ∙ u)), numbered_at, lt-ltb x (length m) l, add-one)
+  number_next z =
+      let l : x < length m = ⊎_elim (λ h. absurd (z (q ∙ get_or_past m x 0 h))) (λ h. h) (le_or_lt (length m) x) in
+      rw (ne_eqb (get_or m x 0) 0 (λ u. z (q ∙ u)), numbered_at, lt-ltb x (length m) l, add-one)
 
 abbrev last_in : Numbered → ℕ
 last_in (numbered m c) = c

@@ -39,10 +39,10 @@ pub record StringKept (b : TypeTable) (start ids : List ℕ) (x e : ℕ) : Type 
 
 -- the two at a value of the code
 abbrev pub IsRight : Kept → List ℕ → Type 0
-IsRight k t = Right k.table.head k.table.section.now k.start.now k.ids.now t
+IsRight k t = Right k.index.table.head k.index.table.section.now k.index.start.now k.ids.now t
 
 abbrev pub IsRight-prop : (k : Kept) (t : List ℕ) → IsProp (IsRight k t)
-IsRight-prop k t = Right-prop k.table.head k.table.section.now k.start.now k.ids.now t
+IsRight-prop k t = Right-prop k.index.table.head k.index.table.section.now k.index.start.now k.ids.now t
 
 abbrev pub IsKept : Kept → ℕ → ℕ → Type 0
-IsKept k x e = StringKept k.table.head k.start.now k.ids.now x e
+IsKept k x e = StringKept k.index.table.head k.index.start.now k.ids.now x e

@@ -1,9 +1,17 @@
 -- A hash table over the names, with open addressing. A slot is 0 where it is free; else the offset of a name, and its place times 2 ^ 32.
-use Rattle.std.specs.Prelude.{ℕ, zero, suc, ◌+◌, ◌/◌, ◌%◌, Option, Some, None, Bool, true, false, List, get_or, eqb}
+use Rattle.std.specs.Prelude.{ℕ, zero, suc, ◌+◌, ◌*◌, ◌/◌, ◌%◌, Option, Some, None, Bool, true, false, List, map, get_or, eqb}
 use Rattle.spec_c_dumper.specs.rules.Names.{same_bytes}
 use Rattle.spec_type_table.specs.declared.types.TypeTable.{TypeTable}
 use Rattle.spec_type_table.specs.Names.{str_at}
 use Rattle.btf_open_names.specs.name_classes.Table.{hash_from}
+use Rattle.session_cut_marks.specs.declared.interned.slots.Slot.{Slot}
+
+-- a slot of the code as one number
+unfoldable pub slot_word : Slot → ℕ
+slot_word v = v.off + v.place * 4294967296
+
+unfoldable pub slot_words : List Slot → List ℕ
+slot_words = map slot_word
 
 module _ (b : TypeTable) (s t : List ℕ) where
   -- slot i is free, or has the name

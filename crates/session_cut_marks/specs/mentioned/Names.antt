@@ -1,6 +1,6 @@
 -- The names that are stored: "each distinct name is stored once, in order of first mention". b, s, start: the table, the section, its
 -- index; ids: the new numbers, 0 for what is not kept.
-use Rattle.std.specs.Prelude.{ℕ, zero, suc, ◌+◌, ◌%◌, Bool, true, false, not, List, length, get_or, set, replicate, eqb}
+use Rattle.std.specs.Prelude.{ℕ, zero, suc, ◌+◌, ◌%◌, Option, Some, None, Bool, true, false, not, List, length, get_or, set, replicate, eqb}
 use Rattle.spec_c_dumper.specs.rules.Types.{is_empty}
 use Rattle.spec_c_dumper.specs.rules.Names.{same_bytes}
 use Rattle.spec_type_table.specs.declared.types.TypeTable.{TypeTable}
@@ -25,6 +25,10 @@ module _ (b : TypeTable) (s : List ℕ) where
   unfoldable pub first_from : ℕ → ℕ → ℕ → ℕ → ℕ
   first_from e off j zero = j
   first_from e off j (suc k) = elim (is_name e off j) [ true ↦ j | false ↦ first_from e off (suc j) k ]
+
+  -- of its first n words, if one is
+  unfoldable pub first_name : ℕ → ℕ → ℕ → Option ℕ
+  first_name e off n = elim (named_to e off n) [ true ↦ Some (first_from e off 0 n) | false ↦ None ]
 
   module _ (start ids : List ℕ) where
     -- type y is kept and mentions the name

@@ -7,6 +7,7 @@ use mathlib.Core.Bool.{Bool, true, false, not, ◌&&◌}
 use mathlib.Core.List.{List, [], ◌∷◌}
 use borrow.Author.Tests.{not-true, not-false}
 use lib.ListN.{length}
+use Rattle.std.proofs.Math.Bool.{and-true, and-false, not-not}
 use Rattle.spec_c_dumper.specs.rules.Types.{Qualifier, volatile, const, restrict}
 use Rattle.session_declaration_reader.specs.tokens.Tokens.{Kind, tag_word, void_word, other_word, Token, qual, word, number, mark, rest}
 use Rattle.session_declaration_reader.specs.bases.Bases.{Spelt, spelt, no_quals, void_before, is_qualifier_among, distinct, begins, begins_word, bracketed, qual_run, after_quals, ends_name, word_run, after_words, is_tag, no_tags, single, is_base, words_of, same_qualifier}
@@ -105,14 +106,9 @@ module _ (ts : Ts) (g : TokenKind) (e : g ≡ next_kind ts) (r : Bool) (w : r �
     unfolding ends_name
     name_star q = rw (sym is_word ∙ f, starts 42 ∙ q)
 
-    pub name_other : is_mark_kind 42 g ≡ false → is_mark_kind 40 g ≡ false → true ≡ ends_name ts
-    unfolding ends_name bracketed
-    name_other p q = rw (sym is_word ∙ f, starts 42 ∙ p, starts 40 ∙ q)
-
-    pub name_open : is_mark_kind 42 g ≡ false → is_mark_kind 40 g ≡ true → (us : Ts) → us ≡ rest ts → (k : TokenKind) → k ≡ next_kind us → not (is_mark_kind 42 k) ≡ ends_name ts
-    unfolding ends_name bracketed
-    name_open p q us u k z =
-        rw (sym is_word ∙ f, starts 42 ∙ p, starts 40 ∙ q, begins_kind 42 (rest ts), sym (z ∙ ap next_kind u))
+    pub name_end : is_mark_kind 42 g ≡ false → (b : Bool) → b ≡ bracketed ts → not b ≡ ends_name ts
+    unfolding ends_name
+    name_end p b q = rw (sym is_word ∙ f, starts 42 ∙ p, sym q)
 
   pub base_none : (n : Bool) → r ≡ false → false ≡ is_base_word n ts
   unfolding is_base_word
@@ -179,12 +175,8 @@ over n (word k w ∷ ts) e =
     record { run_is = rw (f, word_run); after_is = rw (f, after_words) }
 
 pub word_gone : (s : List ℕ) (at : ℕ) (n : Bool) (r : Option Tok) → BaseWord s at n r → (b : Bool) → is_some r ≡ not b → b ≡ not (is_base_word n (tokens_at s at))
-word_gone s at n r e b h = twice_not b ∙ ap not (sym h) ∙ go r e
+word_gone s at n r e b h = sym (not-not b) ∙ ap not (sym h) ∙ go r e
   where
-    twice_not : (b : Bool) → b ≡ not (not b)
-    twice_not true = refl
-    twice_not false = refl
-
     go : (r : Option Tok) → BaseWord s at n r → not (is_some r) ≡ not (is_base_word n (tokens_at s at))
     go (Some t) e = ap not e.1
     go None e = ap not e
@@ -207,6 +199,14 @@ AfterInv s at n i = (after_words n (tokens_at s i) ≡ after_words n (tokens_at 
 pub after_start : (s : List ℕ) (at : ℕ) (n : Bool) → AfterInv s at n at
 unfolding AfterInv
 after_start s at n = (refl, refl)
+
+-- whether none of the words that are passed is a tag's
+pub TagsInv : List ℕ → ℕ → Bool → ℕ → Bool → Type 0
+TagsInv s at n i f = no_tags (word_run n (tokens_at s at)) ≡ (f && no_tags (word_run n (tokens_at s i)))
+
+pub tags_start : (s : List ℕ) (at : ℕ) (n : Bool) → TagsInv s at n at true
+unfolding TagsInv
+tags_start s at n = refl
 
 module _ (s : List ℕ) (n : Bool) (i : ℕ) (r : Bool) (e : r ≡ is_base_word n (tokens_at s i)) where
   module _ (h : r ≡ true) (t : Tok) (l : Looked s i t) where
@@ -237,19 +237,24 @@ module _ (s : List ℕ) (n : Bool) (i : ℕ) (r : Bool) (e : r ≡ is_base_word 
     after_turn at inv =
         (ap (after_words n) l.rest_is ∙ sym st.after_is ∙ inv.0, sym (ap (last_or i) words_are) ∙ inv.1)
 
-    pub tags_turn : (x : Bool) → (t.kind ≡ Tag → ⊥) → no_tags (word_run n (tokens_at s i)) ≡ x → no_tags (word_run n (tokens_at s t.end)) ≡ x
-    unfolding no_tags
-    tags_turn x f inv =
-        let g : is_tag (spelt st.kind st.at) ≡ false = st.tag_is ∙ ap is_tag_kind (sym l.kind_is) ∙ tag_not t.kind f in
-        ap (λ (y : Ts). no_tags (word_run n y)) l.rest_is
-        ∙ sym (ap no_tags st.run_is ∙ ap (λ (b : Bool). not b && no_tags (word_run n (rest (tokens_at s i)))) g)
-        ∙ inv
+    pub tags_turn : (f : Bool) (at : ℕ) → (t.kind ≡ Tag → ⊥) → TagsInv s at n i f → TagsInv s at n t.end f
+    unfolding TagsInv no_tags
+    tags_turn f at k inv =
+        let g : is_tag (spelt st.kind st.at) ≡ false = st.tag_is ∙ ap is_tag_kind (sym l.kind_is) ∙ tag_not t.kind k in
+        inv
+        ∙ ap
+        (λ (b : Bool). f && b)
+        (ap no_tags st.run_is
+        ∙ ap (λ (b : Bool). not b && no_tags (word_run n (rest (tokens_at s i)))) g
+        ∙ ap (λ (y : Ts). no_tags (word_run n y)) (sym l.rest_is))
 
-    pub tags_found : (x : Bool) → t.kind ≡ Tag → no_tags (word_run n (tokens_at s i)) ≡ x → false ≡ x
-    unfolding no_tags
-    tags_found x f inv =
-        let g : is_tag (spelt st.kind st.at) ≡ true = st.tag_is ∙ ap is_tag_kind (sym l.kind_is ∙ f) in
-        sym (ap no_tags st.run_is ∙ ap (λ (b : Bool). not b && no_tags (word_run n (rest (tokens_at s i)))) g) ∙ inv
+    pub tags_found : (f : Bool) (at : ℕ) → t.kind ≡ Tag → TagsInv s at n i f → TagsInv s at n t.end false
+    unfolding TagsInv no_tags
+    tags_found f at k inv =
+        let g : is_tag (spelt st.kind st.at) ≡ true = st.tag_is ∙ ap is_tag_kind (sym l.kind_is ∙ k) in
+        inv
+        ∙ ap (λ (b : Bool). f && b) (ap no_tags st.run_is ∙ ap (λ (b : Bool). not b && no_tags (word_run n (rest (tokens_at s i)))) g)
+        ∙ and-false f
 
     -- words other than a tag's keyword
     pub base_words : (t.kind ≡ Tag → ⊥) → (b : Bool) → b ≡ no_tags (word_run n (tokens_at s t.end)) → b ≡ is_base (word_run n (tokens_at s i))
@@ -311,9 +316,9 @@ module _ (s : List ℕ) (n : Bool) (i : ℕ) (r : Bool) (e : r ≡ is_base_word 
         lasts : {k : Kind} {w : Span} {ss : List (Spelt Span)} → (rs : List (Spelt Span)) → rs ≡ spelt k w ∷ ss → last_or at (words_of rs) ≡ last_to (words_of rs)
         lasts {k} {w} {ss} rs q = ap (λ x. last_or at (words_of x)) q ∙ last_is w (words_of ss) at ∙ sym (ap (λ x. last_to (words_of x)) q)
 
-    pub tags_end : (x : Bool) → no_tags (word_run n (tokens_at s i)) ≡ x → true ≡ x
-    unfolding no_tags
-    tags_end x inv = sym (ap no_tags ov.run_is) ∙ inv
+    pub tags_end : (f : Bool) (at : ℕ) → TagsInv s at n i f → f ≡ no_tags (word_run n (tokens_at s at))
+    unfolding TagsInv no_tags
+    tags_end f at inv = sym (inv ∙ ap (λ (b : Bool). f && b) (ap no_tags ov.run_is) ∙ and-true f)
 
     pub base_over : false ≡ is_base (word_run n (tokens_at s i))
     unfolding is_base
@@ -409,16 +414,10 @@ unfolding distinct is_qualifier_among
 first_two p q qs e = rw e
 
 abbrev mk : Option declared.Qualifier → Option declared.Qualifier → Option declared.Qualifier → ℕ → Quals
-mk a b c e = record { a = a; b = b; c = c; end = e }
-
-ends_one : (a : Bool) → (not a && false) ≡ false
-ends_one true = refl
-ends_one false = refl
+mk a b c e = record { list = a ∷ b ∷ c ∷ []; end = e }
 
 ends_two : (a b : Bool) → (not a && (not b && false)) ≡ false
-ends_two true b = refl
-ends_two false true = refl
-ends_two false false = refl
+ends_two a b = ap (λ (t : Bool). not a && t) (and-false (not b)) ∙ and-false (not a)
 
 -- four qualifiers are never distinct
 four : (p q r x : Qualifier) (qs : List Qualifier) → same_qualifier p q ≡ false → same_qualifier p r ≡ false → same_qualifier q r ≡ false → distinct (p ∷ q ∷ r ∷ x ∷ qs) ≡ false
@@ -427,31 +426,31 @@ four volatile volatile r x qs e f g = absurd (false_true (sym e))
 four volatile const volatile x qs e f g = absurd (false_true (sym f))
 four volatile const const x qs e f g = absurd (false_true (sym g))
 four volatile const restrict volatile qs e f g = refl
-four volatile const restrict const qs e f g = ends_one (is_qualifier_among volatile qs)
+four volatile const restrict const qs e f g = and-false (not (is_qualifier_among volatile qs))
 four volatile const restrict restrict qs e f g = ends_two (is_qualifier_among volatile qs) (is_qualifier_among const qs)
 four volatile restrict volatile x qs e f g = absurd (false_true (sym f))
 four volatile restrict const volatile qs e f g = refl
 four volatile restrict const const qs e f g = ends_two (is_qualifier_among volatile qs) (is_qualifier_among restrict qs)
-four volatile restrict const restrict qs e f g = ends_one (is_qualifier_among volatile qs)
+four volatile restrict const restrict qs e f g = and-false (not (is_qualifier_among volatile qs))
 four volatile restrict restrict x qs e f g = absurd (false_true (sym g))
 four const volatile volatile x qs e f g = absurd (false_true (sym g))
 four const volatile const x qs e f g = absurd (false_true (sym f))
-four const volatile restrict volatile qs e f g = ends_one (is_qualifier_among const qs)
+four const volatile restrict volatile qs e f g = and-false (not (is_qualifier_among const qs))
 four const volatile restrict const qs e f g = refl
 four const volatile restrict restrict qs e f g = ends_two (is_qualifier_among const qs) (is_qualifier_among volatile qs)
 four const const r x qs e f g = absurd (false_true (sym e))
 four const restrict volatile volatile qs e f g = ends_two (is_qualifier_among const qs) (is_qualifier_among restrict qs)
 four const restrict volatile const qs e f g = refl
-four const restrict volatile restrict qs e f g = ends_one (is_qualifier_among const qs)
+four const restrict volatile restrict qs e f g = and-false (not (is_qualifier_among const qs))
 four const restrict const x qs e f g = absurd (false_true (sym f))
 four const restrict restrict x qs e f g = absurd (false_true (sym g))
 four restrict volatile volatile x qs e f g = absurd (false_true (sym g))
-four restrict volatile const volatile qs e f g = ends_one (is_qualifier_among restrict qs)
+four restrict volatile const volatile qs e f g = and-false (not (is_qualifier_among restrict qs))
 four restrict volatile const const qs e f g = ends_two (is_qualifier_among restrict qs) (is_qualifier_among volatile qs)
 four restrict volatile const restrict qs e f g = refl
 four restrict volatile restrict x qs e f g = absurd (false_true (sym f))
 four restrict const volatile volatile qs e f g = ends_two (is_qualifier_among restrict qs) (is_qualifier_among const qs)
-four restrict const volatile const qs e f g = ends_one (is_qualifier_among restrict qs)
+four restrict const volatile const qs e f g = and-false (not (is_qualifier_among restrict qs))
 four restrict const volatile restrict qs e f g = refl
 four restrict const const x qs e f g = absurd (false_true (sym g))
 four restrict const restrict x qs e f g = absurd (false_true (sym f))
@@ -461,7 +460,7 @@ three_distinct : (p q r : Qualifier) (xs : List Qualifier) → same_qualifier p 
     → distinct (p ∷ q ∷ r ∷ xs) ≡ (not a && not b && no_quals xs)
 unfolding distinct is_qualifier_among
 three_distinct p q r xs e true b f g = rw (e, f)
-three_distinct p q r xs e false true f g = rw (e, f, g) (ends_one (is_qualifier_among p xs))
+three_distinct p q r xs e false true f g = rw (e, f, g) (and-false (not (is_qualifier_among p xs)))
 three_distinct p q r xs e false false f g = go xs
   where
     go : (xs : List Qualifier) → distinct (p ∷ q ∷ r ∷ xs) ≡ no_quals xs

@@ -1,6 +1,6 @@
 -- Laws for the code of the grammar. Assumes nothing.
 use Rattle.std.specs.Prelude.{Some, None}
-use Prim.Native.Nat.{ℕ, zero, suc, ◌-◌}
+use Prim.Native.Nat.{ℕ, zero, suc, ◌-◌, ◌≤◌}
 use mathlib.Core.Path.{◌≡◌, refl, ap, sym, ◌∙◌}
 use mathlib.Core.Bool.{Bool, true, false, ◌&&◌, ◌||◌}
 use mathlib.Core.List.{List, [], ◌∷◌, ◌++◌, append_assoc, append-nil}
@@ -19,7 +19,6 @@ use Rattle.session_declaration_reader.specs.grammar.Emission.{Done, done, none, 
 use Rattle.session_declaration_reader.specs.declared.tokens.Tok.{Tok}
 use Rattle.session_declaration_reader.specs.declared.bases.Quals.{Quals}
 use Rattle.session_declaration_reader.specs.declared.bases.Base.{Base}
-use Rattle.session_declaration_reader.specs.declared.bases.items.Spot.{Spot}
 use Rattle.session_declaration_reader.specs.declared.token_kind.TokenKind.{TokenKind}
 use Rattle.session_declaration_reader.specs.declared.token_kind.TokenKind.TheVariants as kinds
 use Rattle.session_declaration_reader.specs.declared.token_kind.TokenKind.TheVariants.{End, Tag, Void, Word, Count, Mark}
@@ -30,37 +29,34 @@ use Rattle.session_declaration_reader.proofs.bases.BaseLaws.{begins_kind, word_k
 abbrev Ts : Type 0
 Ts = List (Token Span)
 
-abbrev spot : ℕ → ℕ → Spot
-spot at n = record { at = at; n = n }
-
 -- outcomes
 done_none : (ts : Ts) (p : Placed) → done ts p ≡ none → ⊥
 done_none ts p e = let z : ◌≡◌ {A = ℕ} 0 1 = cc in omega arith
 
-pub record Read {A : Type 0} (f : A → List Item) (s : List ℕ) (r : Spot) (t : List ℕ) (c : List ℕ) (k : ℕ) (m : Reads Span A) : Type 0 where
+pub record Read {A : Type 0} (f : A → List Item) (s : List ℕ) (r j : ℕ) (t : List ℕ) (c : List ℕ) (k : ℕ) (m : Reads Span A) : Type 0 where
   pub value : A
-  pub reads_it : m ≡ reads value (tokens_at s r.at)
-  pub stores : placed r.n t ≡ placing c k (f value)
+  pub reads_it : m ≡ reads value (tokens_at s r)
+  pub stores : placed j t ≡ placing c k (f value)
 
 module _ {A : Type 0} (f : A → List Item) (s : List ℕ) (c : List ℕ) (k : ℕ) where
-  pub split : (r : Spot) (t : List ℕ) (m : Reads Span A) → outcome s (Some r) t ≡ emits f c k m → Read f s r t c k m
+  pub split : (r j : ℕ) (t : List ℕ) (m : Reads Span A) → outcome s (Some r) (placed j t) ≡ emits f c k m → Read f s r j t c k m
   unfolding outcome emits
-  split r t (reads a ts) e =
-      let o : done (tokens_at s r.at) (placed r.n t) ≡ done ts (placing c k (f a)) = e in
-      let p : ts ≡ tokens_at s r.at = cc in
+  split r j t (reads a ts) e =
+      let o : done (tokens_at s r) (placed j t) ≡ done ts (placing c k (f a)) = e in
+      let p : ts ≡ tokens_at s r = cc in
       record { value = a; reads_it = ap (reads a) p; stores = cc }
-  split r t fails e = absurd (done_none (tokens_at s r.at) (placed r.n t) e)
+  split r j t fails e = absurd (done_none (tokens_at s r) (placed j t) e)
 
-  pub split_bad : (t : List ℕ) (m : Reads Span A) → outcome s None t ≡ emits f c k m → m ≡ fails
+  pub split_bad : (t : Placed) (m : Reads Span A) → outcome s None t ≡ emits f c k m → m ≡ fails
   unfolding outcome emits
   split_bad t (reads a ts) e = absurd (done_none ts (placing c k (f a)) (sym e))
   split_bad t fails e = refl
 
-  good : (at z : ℕ) (t : List ℕ) (a : A) (m : Reads Span A) → m ≡ reads a (tokens_at s at) → placed z t ≡ placing c k (f a) → outcome s (Some (spot at z)) t ≡ emits f c k m
+  good : (at z : ℕ) (t : List ℕ) (a : A) (m : Reads Span A) → m ≡ reads a (tokens_at s at) → placed z t ≡ placing c k (f a) → outcome s (Some at) (placed z t) ≡ emits f c k m
   unfolding outcome emits
   good at z t a m e p = ap (done (tokens_at s at)) p ∙ sym (ap (emits f c k) e)
 
-  bad : (t : List ℕ) (m : Reads Span A) → m ≡ fails → outcome s None t ≡ emits f c k m
+  bad : (t : Placed) (m : Reads Span A) → m ≡ fails → outcome s None t ≡ emits f c k m
   unfolding outcome emits
   bad t m e = sym (ap (emits f c k) e)
 
@@ -212,33 +208,40 @@ name_goes : {A : Type 0} → (n : Bool) (ts : Ts) (k : Ts → Reads Span A) → 
 unfolding wanted_name
 name_goes n ts k e f = passed n _ (k ts) e ∙ passed (begins_word ts) (k (rest ts)) fails f
 
+-- one call less may be open, or none
+one_less : (left less : ℕ) → (1 ≤ left) × (less ≡ left - 1) → left ≡ suc less
+one_less left less h = omega (arith, h.0, h.1)
+
+none_left : (left : ℕ) → (1 ≤ left → ⊥) → left ≡ 0
+none_left left h = omega (arith, h)
+
 -- declarator
 module _ (s : List ℕ) (at : ℕ) (left : ℕ) (n : Bool) (c : List ℕ) (k : ℕ) where
   abbrev D : Reads Span (Layers Span)
   D = declarator left n (tokens_at s at)
 
-  pub decl_zero : left ≡ 0 → (t : List ℕ) → outcome s None t ≡ emits layer_items c k D
+  pub decl_zero : (1 ≤ left → ⊥) → (t : Placed) → outcome s None t ≡ emits layer_items c k D
   unfolding declarator
-  decl_zero e t = bad layer_items s c k t D (ap (λ (f : ℕ). declarator f n (tokens_at s at)) e)
+  decl_zero e t = bad layer_items s c k t D (ap (λ (f : ℕ). declarator f n (tokens_at s at)) (none_left left e))
 
-  module _ (ne : left ≡ 0 → ⊥) (t : Tok) (l : Looked s at t) where
+  module _ (less : ℕ) (ok : (1 ≤ left) × (less ≡ left - 1)) (t : Tok) (l : Looked s at t) where
     abbrev ts : Ts
     ts = tokens_at s at
 
-    unroll : D ≡ declarator (suc (left - 1)) n ts
-    unroll = let e : left ≡ suc (left - 1) = omega arith in ap (λ (f : ℕ). declarator f n ts) e
+    unroll : D ≡ declarator (suc less) n ts
+    unroll = ap (λ (f : ℕ). declarator f n ts) (one_less left less ok)
 
-    pub decl_star : is_mark_kind 42 t.kind ≡ true → (o : Done) → o ≡ emits layer_items c k (starred (left - 1) n (tokens_at s t.end)) → o ≡ emits layer_items c k D
+    pub decl_star : is_mark_kind 42 t.kind ≡ true → (o : Done) → o ≡ emits layer_items c k (starred less n (tokens_at s t.end)) → o ≡ emits layer_items c k D
     unfolding declarator starred
     decl_star e o q =
-        through layer_items s c k o D _ q (unroll ∙ passed (begins 42 ts) (starred (left - 1) n (rest ts)) _ (sees s at t l 42 e) ∙ ap (starred (left - 1) n) (sym l.rest_is))
+        through layer_items s c k o D _ q (unroll ∙ passed (begins 42 ts) (starred less n (rest ts)) _ (sees s at t l 42 e) ∙ ap (starred less n) (sym l.rest_is))
 
     module _ (n₁ : is_mark_kind 42 t.kind ≡ false) (b : Bool) (eb : b ≡ bracketed ts) where
-      no_star : D ≡ elim (bracketed ts) [ true ↦ in_brackets (left - 1) n (rest ts) | false ↦ wanted_name n ts (λ us. suffixes (left - 1) named us) ]
+      no_star : D ≡ elim (bracketed ts) [ true ↦ in_brackets less n (rest ts) | false ↦ wanted_name n ts (λ us. suffixes less named us) ]
       unfolding declarator in_brackets
       no_star = unroll ∙ failed (begins 42 ts) _ _ (misses s at t l 42 n₁)
 
-      pub decl_bracket : b ≡ true → (o : Done) → o ≡ emits layer_items c k (in_brackets (left - 1) n (tokens_at s t.end)) → o ≡ emits layer_items c k D
+      pub decl_bracket : b ≡ true → (o : Done) → o ≡ emits layer_items c k (in_brackets less n (tokens_at s t.end)) → o ≡ emits layer_items c k D
       decl_bracket e o q =
           through
           layer_items
@@ -249,13 +252,13 @@ module _ (s : List ℕ) (at : ℕ) (left : ℕ) (n : Bool) (c : List ℕ) (k : �
           D
           _
           q
-          (no_star ∙ passed (bracketed ts) (in_brackets (left - 1) n (rest ts)) _ (sym eb ∙ e) ∙ ap (in_brackets (left - 1) n) (sym l.rest_is))
+          (no_star ∙ passed (bracketed ts) (in_brackets less n (rest ts)) _ (sym eb ∙ e) ∙ ap (in_brackets less n) (sym l.rest_is))
 
       module _ (n₂ : b ≡ false) where
-        core : D ≡ wanted_name n ts (λ us. suffixes (left - 1) named us)
-        core = no_star ∙ failed (bracketed ts) (in_brackets (left - 1) n (rest ts)) _ (sym eb ∙ n₂)
+        core : D ≡ wanted_name n ts (λ us. suffixes less named us)
+        core = no_star ∙ failed (bracketed ts) (in_brackets less n (rest ts)) _ (sym eb ∙ n₂)
 
-        pub decl_unnamed : n ≡ false → (o : Done) → o ≡ emits layer_items c k (suffixes (left - 1) named ts) → o ≡ emits layer_items c k D
+        pub decl_unnamed : n ≡ false → (o : Done) → o ≡ emits layer_items c k (suffixes less named ts) → o ≡ emits layer_items c k D
         unfolding wanted_name
         decl_unnamed e o q = through layer_items s c k o D _ q (core ∙ rw e)
 
@@ -263,11 +266,11 @@ module _ (s : List ℕ) (at : ℕ) (left : ℕ) (n : Bool) (c : List ℕ) (k : �
           is_word : begins_word ts ≡ r
           is_word = word_kind ts ∙ ap is_word_kind (sym l.kind_is) ∙ sym er
 
-          pub decl_nameless : r ≡ false → (c' : List ℕ) → outcome s None c' ≡ emits layer_items c k D
+          pub decl_nameless : r ≡ false → (c' : Placed) → outcome s None c' ≡ emits layer_items c k D
           decl_nameless f c' = bad layer_items s c k c' D (core ∙ name_fails n ts _ e (is_word ∙ f))
 
-          pub decl_name : r ≡ true → (o : Done) → o ≡ emits layer_items c k (suffixes (left - 1) named (tokens_at s t.end)) → o ≡ emits layer_items c k D
-          decl_name f o q = through layer_items s c k o D _ q (core ∙ name_goes n ts _ e (is_word ∙ f) ∙ ap (suffixes (left - 1) named) (sym l.rest_is))
+          pub decl_name : r ≡ true → (o : Done) → o ≡ emits layer_items c k (suffixes less named (tokens_at s t.end)) → o ≡ emits layer_items c k D
+          decl_name f o q = through layer_items s c k o D _ q (core ∙ name_goes n ts _ e (is_word ∙ f) ∙ ap (suffixes less named) (sym l.rest_is))
 
 pub then_reads : {A B : Type 0} → (m : Reads Span A) (a : A) (ts : Ts) (k : A → Ts → Reads Span B) → m ≡ reads a ts → and_then m k ≡ k a ts
 unfolding and_then
@@ -282,7 +285,7 @@ module _ (s : List ℕ) (at : ℕ) (left : ℕ) (n : Bool) (c : List ℕ) (k : �
   abbrev S : Reads Span (Layers Span)
   S = starred left n (tokens_at s at)
 
-  pub star_twice : QualsAt s at None → (c' : List ℕ) → outcome s None c' ≡ emits layer_items c k S
+  pub star_twice : QualsAt s at None → (c' : Placed) → outcome s None c' ≡ emits layer_items c k S
   unfolding starred
   star_twice f c' = bad layer_items s c k c' S (failed (distinct (qual_run (tokens_at s at))) _ fails f)
 
@@ -293,49 +296,49 @@ module _ (s : List ℕ) (at : ℕ) (left : ℕ) (n : Bool) (c : List ℕ) (k : �
         passed (distinct (qual_run (tokens_at s at))) _ fails a.apart
         ∙ ap (λ (x : Ts). and_then (declarator left n x) (λ l vs. reads (pointer (qual_run (tokens_at s at)) l) vs)) (sym a.rest_is)
 
-    pub star_fails : (c₁ : List ℕ) → outcome s None c₁ ≡ emits layer_items c k (declarator left n (tokens_at s q.end)) → outcome s None c₁ ≡ emits layer_items c k S
+    pub star_fails : (c₁ : Placed) → outcome s None c₁ ≡ emits layer_items c k (declarator left n (tokens_at s q.end)) → outcome s None c₁ ≡ emits layer_items c k S
     star_fails c₁ e =
         bad layer_items s c k c₁ S (opened ∙ then_fails (declarator left n (tokens_at s q.end)) _ (split_bad layer_items s c k c₁ (declarator left n (tokens_at s q.end)) e))
 
-    pub star_good : (r : Spot) (c₁ : List ℕ) → outcome s (Some r) c₁ ≡ emits layer_items c k (declarator left n (tokens_at s q.end)) → (m : ℕ) (c₂ : List ℕ) → placed m c₂ ≡ placing c₁ r.n (qual_items (quals_of q)) → (z : ℕ) (c₃ : List ℕ) → placed z c₃ ≡ placing c₂ m (item 2 0 0 ∷ [])
-        → outcome s (Some (spot r.at z)) c₃ ≡ emits layer_items c k S
+    pub star_good : (r j : ℕ) (c₁ : List ℕ) → outcome s (Some r) (placed j c₁) ≡ emits layer_items c k (declarator left n (tokens_at s q.end)) → (m : ℕ) (c₂ : List ℕ) → placed m c₂ ≡ placing c₁ j (qual_items (quals_of q)) → (z : ℕ) (c₃ : List ℕ) → placed z c₃ ≡ placing c₂ m (item 2 0 0 ∷ [])
+        → outcome s (Some r) (placed z c₃) ≡ emits layer_items c k S
     unfolding layer_items
-    star_good r c₁ e m c₂ e₂ z c₃ e₃ =
-        let w = split layer_items s c k r c₁ (declarator left n (tokens_at s q.end)) e in
+    star_good r j c₁ e m c₂ e₂ z c₃ e₃ =
+        let w = split layer_items s c k r j c₁ (declarator left n (tokens_at s q.end)) e in
         let qs : List Item = qual_items (qual_run (tokens_at s at)) in
-        let i : placed m c₂ ≡ placing c₁ r.n qs = e₂ ∙ ap (λ (x : List Qualifier). placing c₁ r.n (qual_items x)) a.list_is in
+        let i : placed m c₂ ≡ placing c₁ j qs = e₂ ∙ ap (λ (x : List Qualifier). placing c₁ j (qual_items x)) a.list_is in
         good
         layer_items
         s
         c
         k
-        r.at
+        r
         z
         c₃
         (pointer (qual_run (tokens_at s at)) w.value)
         S
-        (opened ∙ then_reads (declarator left n (tokens_at s q.end)) w.value (tokens_at s r.at) _ w.reads_it)
-        (placing_then c k (layer_items w.value) (qs ++ item 2 0 0 ∷ []) r.n c₁ z c₃ w.stores (placing_then c₁ r.n qs (item 2 0 0 ∷ []) m c₂ z c₃ i e₃))
+        (opened ∙ then_reads (declarator left n (tokens_at s q.end)) w.value (tokens_at s r) _ w.reads_it)
+        (placing_then c k (layer_items w.value) (qs ++ item 2 0 0 ∷ []) j c₁ z c₃ w.stores (placing_then c₁ j qs (item 2 0 0 ∷ []) m c₂ z c₃ i e₃))
 
 -- in parentheses
 module _ (s : List ℕ) (at : ℕ) (left : ℕ) (n : Bool) (c : List ℕ) (k : ℕ) where
   abbrev I : Reads Span (Layers Span)
   I = in_brackets left n (tokens_at s at)
 
-  pub in_fails : (c₁ : List ℕ) → outcome s None c₁ ≡ emits layer_items c k (declarator left n (tokens_at s at)) → outcome s None c₁ ≡ emits layer_items c k I
+  pub in_fails : (c₁ : Placed) → outcome s None c₁ ≡ emits layer_items c k (declarator left n (tokens_at s at)) → outcome s None c₁ ≡ emits layer_items c k I
   unfolding in_brackets
   in_fails c₁ e = bad layer_items s c k c₁ I (then_fails (declarator left n (tokens_at s at)) _ (split_bad layer_items s c k c₁ (declarator left n (tokens_at s at)) e))
 
-  module _ (r : Spot) (c₁ : List ℕ) (e : outcome s (Some r) c₁ ≡ emits layer_items c k (declarator left n (tokens_at s at))) (t : Tok) (l : Looked s r.at t) where
-    w : Read layer_items s r c₁ c k (declarator left n (tokens_at s at))
-    w = split layer_items s c k r c₁ (declarator left n (tokens_at s at)) e
+  module _ (r j : ℕ) (c₁ : List ℕ) (e : outcome s (Some r) (placed j c₁) ≡ emits layer_items c k (declarator left n (tokens_at s at))) (t : Tok) (l : Looked s r t) where
+    w : Read layer_items s r j c₁ c k (declarator left n (tokens_at s at))
+    w = split layer_items s c k r j c₁ (declarator left n (tokens_at s at)) e
 
-    pub in_unclosed : is_mark_kind 41 t.kind ≡ false → (c' : List ℕ) → outcome s None c' ≡ emits layer_items c k I
+    pub in_unclosed : is_mark_kind 41 t.kind ≡ false → (c' : Placed) → outcome s None c' ≡ emits layer_items c k I
     unfolding in_brackets
     in_unclosed f c' =
-        bad layer_items s c k c' I (then_reads (declarator left n (tokens_at s at)) w.value (tokens_at s r.at) _ w.reads_it ∙ wants_not s r.at t l 41 _ f)
+        bad layer_items s c k c' I (then_reads (declarator left n (tokens_at s at)) w.value (tokens_at s r) _ w.reads_it ∙ wants_not s r t l 41 _ f)
 
-    pub in_good : is_mark_kind 41 t.kind ≡ true → (o : Done) → o ≡ emits layer_items c₁ r.n (suffixes left named (tokens_at s t.end)) → o ≡ emits layer_items c k I
+    pub in_good : is_mark_kind 41 t.kind ≡ true → (o : Done) → o ≡ emits layer_items c₁ j (suffixes left named (tokens_at s t.end)) → o ≡ emits layer_items c k I
     unfolding in_brackets
     in_good f o q =
         through
@@ -346,29 +349,29 @@ module _ (s : List ℕ) (at : ℕ) (left : ℕ) (n : Bool) (c : List ℕ) (k : �
         o
         I
         _
-        (suffix_on c k r.n c₁ w.value left (tokens_at s t.end) o w.stores q)
-        (then_reads (declarator left n (tokens_at s at)) w.value (tokens_at s r.at) _ w.reads_it ∙ wants s r.at t l 41 _ f)
+        (suffix_on c k j c₁ w.value left (tokens_at s t.end) o w.stores q)
+        (then_reads (declarator left n (tokens_at s at)) w.value (tokens_at s r) _ w.reads_it ∙ wants s r t l 41 _ f)
 
 -- suffixes
 module _ (s : List ℕ) (at : ℕ) (left : ℕ) (c : List ℕ) (k : ℕ) where
   abbrev X : Reads Span (Layers Span)
   X = suffixes left named (tokens_at s at)
 
-  pub suffix_zero : left ≡ 0 → (c' : List ℕ) → outcome s None c' ≡ emits layer_items c k X
+  pub suffix_zero : (1 ≤ left → ⊥) → (c' : Placed) → outcome s None c' ≡ emits layer_items c k X
   unfolding suffixes
-  suffix_zero e c' = bad layer_items s c k c' X (ap (λ (f : ℕ). suffixes f named (tokens_at s at)) e)
+  suffix_zero e c' = bad layer_items s c k c' X (ap (λ (f : ℕ). suffixes f named (tokens_at s at)) (none_left left e))
 
-  module _ (ne : left ≡ 0 → ⊥) (t : Tok) (l : Looked s at t) where
-    unrolls : X ≡ suffixes (suc (left - 1)) named (tokens_at s at)
-    unrolls = let e : left ≡ suc (left - 1) = omega arith in ap (λ (f : ℕ). suffixes f named (tokens_at s at)) e
+  module _ (less : ℕ) (ok : (1 ≤ left) × (less ≡ left - 1)) (t : Tok) (l : Looked s at t) where
+    unrolls : X ≡ suffixes (suc less) named (tokens_at s at)
+    unrolls = ap (λ (f : ℕ). suffixes f named (tokens_at s at)) (one_less left less ok)
 
-    pub suffix_count : is_mark_kind 91 t.kind ≡ true → (o : Done) → o ≡ emits layer_items c k (counts (left - 1) (tokens_at s t.end)) → o ≡ emits layer_items c k X
+    pub suffix_count : is_mark_kind 91 t.kind ≡ true → (o : Done) → o ≡ emits layer_items c k (counts less (tokens_at s t.end)) → o ≡ emits layer_items c k X
     unfolding suffixes counts
     suffix_count e o q =
-        through layer_items s c k o X _ q (unrolls ∙ passed (begins 91 (tokens_at s at)) (counts (left - 1) (rest (tokens_at s at))) _ (sees s at t l 91 e) ∙ ap (counts (left - 1)) (sym l.rest_is))
+        through layer_items s c k o X _ q (unrolls ∙ passed (begins 91 (tokens_at s at)) (counts less (rest (tokens_at s at))) _ (sees s at t l 91 e) ∙ ap (counts less) (sym l.rest_is))
 
     module _ (n₁ : is_mark_kind 91 t.kind ≡ false) where
-      pub suffix_proto : is_mark_kind 40 t.kind ≡ true → (o : Done) → o ≡ emits layer_items c k (protos (left - 1) (tokens_at s t.end)) → o ≡ emits layer_items c k X
+      pub suffix_proto : is_mark_kind 40 t.kind ≡ true → (o : Done) → o ≡ emits layer_items c k (protos less (tokens_at s t.end)) → o ≡ emits layer_items c k X
       unfolding suffixes protos
       suffix_proto e o q =
           through
@@ -382,10 +385,10 @@ module _ (s : List ℕ) (at : ℕ) (left : ℕ) (c : List ℕ) (k : ℕ) where
           q
           (unrolls
           ∙ failed (begins 91 (tokens_at s at)) _ _ (misses s at t l 91 n₁)
-          ∙ passed (begins 40 (tokens_at s at)) (protos (left - 1) (rest (tokens_at s at))) _ (sees s at t l 40 e)
-          ∙ ap (protos (left - 1)) (sym l.rest_is))
+          ∙ passed (begins 40 (tokens_at s at)) (protos less (rest (tokens_at s at))) _ (sees s at t l 40 e)
+          ∙ ap (protos less) (sym l.rest_is))
 
-      pub suffix_none : is_mark_kind 40 t.kind ≡ false → outcome s (Some (spot at k)) c ≡ emits layer_items c k X
+      pub suffix_none : is_mark_kind 40 t.kind ≡ false → outcome s (Some at) (placed k c) ≡ emits layer_items c k X
       unfolding suffixes layer_items placing
       suffix_none n₂ =
           good
@@ -406,7 +409,7 @@ module _ (s : List ℕ) (at : ℕ) (left : ℕ) (c : List ℕ) (k : ℕ) (t : To
   abbrev C : Reads Span (Layers Span)
   C = counts left (tokens_at s at)
 
-  pub counts_none : ((m : ℕ) → t.kind ≡ Count m → ⊥) → (c' : List ℕ) → outcome s None c' ≡ emits layer_items c k C
+  pub counts_none : ((m : ℕ) → t.kind ≡ Count m → ⊥) → (c' : Placed) → outcome s None c' ≡ emits layer_items c k C
   unfolding counts
   counts_none f c' = bad layer_items s c k c' C (count_not (tokens_at s at) t.kind _ l.kind_is f)
 
@@ -417,7 +420,7 @@ module _ (s : List ℕ) (at : ℕ) (left : ℕ) (c : List ℕ) (k : ℕ) (t : To
         count_some (tokens_at s at) size (λ n us. suffixes left (array n named) us) (sym y ∙ l.kind_is)
         ∙ ap (λ (x : Ts). wanted 93 x (suffixes left (array size named))) (sym l.rest_is)
 
-    pub counts_open : is_mark_kind 93 u.kind ≡ false → (c' : List ℕ) → outcome s None c' ≡ emits layer_items c k C
+    pub counts_open : is_mark_kind 93 u.kind ≡ false → (c' : Placed) → outcome s None c' ≡ emits layer_items c k C
     counts_open f c' = bad layer_items s c k c' C (counted ∙ wants_not s t.end u m 93 _ f)
 
     pub counts_good : is_mark_kind 93 u.kind ≡ true → (z : ℕ) (c₁ : List ℕ) → placed z c₁ ≡ placing c k (item 3 size 0 ∷ [])
@@ -440,15 +443,15 @@ module _ (s : List ℕ) (at : ℕ) (left : ℕ) (c : List ℕ) (k : ℕ) where
   abbrev P : Reads Span (Layers Span)
   P = protos left (tokens_at s at)
 
-  pub protos_fail : (c₁ : List ℕ) → outcome s None c₁ ≡ emits proto_items c k (params left (tokens_at s at)) → outcome s None c₁ ≡ emits layer_items c k P
+  pub protos_fail : (c₁ : Placed) → outcome s None c₁ ≡ emits proto_items c k (params left (tokens_at s at)) → outcome s None c₁ ≡ emits layer_items c k P
   unfolding protos
   protos_fail c₁ e = bad layer_items s c k c₁ P (then_fails (params left (tokens_at s at)) _ (split_bad proto_items s c k c₁ (params left (tokens_at s at)) e))
 
-  pub protos_good : (r : Spot) (c₁ : List ℕ) → outcome s (Some r) c₁ ≡ emits proto_items c k (params left (tokens_at s at))
-      → (o : Done) → o ≡ emits layer_items c₁ r.n (suffixes left named (tokens_at s r.at)) → o ≡ emits layer_items c k P
+  pub protos_good : (r j : ℕ) (c₁ : List ℕ) → outcome s (Some r) (placed j c₁) ≡ emits proto_items c k (params left (tokens_at s at))
+      → (o : Done) → o ≡ emits layer_items c₁ j (suffixes left named (tokens_at s r)) → o ≡ emits layer_items c k P
   unfolding protos layer_items
-  protos_good r c₁ e o q =
-      let w = split proto_items s c k r c₁ (params left (tokens_at s at)) e in
+  protos_good r j c₁ e o q =
+      let w = split proto_items s c k r j c₁ (params left (tokens_at s at)) e in
       through
       layer_items
       s
@@ -457,8 +460,8 @@ module _ (s : List ℕ) (at : ℕ) (left : ℕ) (c : List ℕ) (k : ℕ) where
       o
       P
       _
-      (suffix_on c k r.n c₁ (proto w.value named) left (tokens_at s r.at) o w.stores q)
-      (then_reads (params left (tokens_at s at)) w.value (tokens_at s r.at) _ w.reads_it)
+      (suffix_on c k j c₁ (proto w.value named) left (tokens_at s r) o w.stores q)
+      (then_reads (params left (tokens_at s at)) w.value (tokens_at s r) _ w.reads_it)
 
 -- what holds of all that is read
 abbrev All : {A : Type 0} → (A → Type 0) → Reads Span A → Type 0
@@ -554,11 +557,11 @@ module _ (s : List ℕ) (at : ℕ) (left : ℕ) (c : List ℕ) (k : ℕ) (b : Ba
 
 -- behind `...`
 module _ (s : List ℕ) (at : ℕ) (c : List ℕ) (k : ℕ) (t : Tok) (l : Looked s at t) where
-  pub dots_open : is_mark_kind 41 t.kind ≡ false → (c' : List ℕ) → outcome s None c' ≡ emits param_items c k (dots_end (tokens_at s at))
+  pub dots_open : is_mark_kind 41 t.kind ≡ false → (c' : Placed) → outcome s None c' ≡ emits param_items c k (dots_end (tokens_at s at))
   unfolding dots_end
   dots_open f c' = bad param_items s c k c' (dots_end (tokens_at s at)) (wants_not s at t l 41 _ f)
 
-  pub dots_good : is_mark_kind 41 t.kind ≡ true → (z : ℕ) (c₁ : List ℕ) → placed z c₁ ≡ placing c k (item 1 0 0 ∷ []) → outcome s (Some (spot t.end z)) c₁ ≡ emits param_items c k (dots_end (tokens_at s at))
+  pub dots_good : is_mark_kind 41 t.kind ≡ true → (z : ℕ) (c₁ : List ℕ) → placed z c₁ ≡ placing c k (item 1 0 0 ∷ []) → outcome s (Some t.end) (placed z c₁) ≡ emits param_items c k (dots_end (tokens_at s at))
   unfolding dots_end param_items
   dots_good f z c₁ e = good param_items s c k t.end z c₁ dots (dots_end (tokens_at s at)) (wants s at t l 41 _ f) e
 
@@ -567,28 +570,28 @@ module _ (s : List ℕ) (at : ℕ) (left : ℕ) (c : List ℕ) (k : ℕ) where
   abbrev E : Reads Span (Params Span)
   E = param_end left (tokens_at s at)
 
-  pub end_zero : left ≡ 0 → (c' : List ℕ) → outcome s None c' ≡ emits param_items c k E
+  pub end_zero : (1 ≤ left → ⊥) → (c' : Placed) → outcome s None c' ≡ emits param_items c k E
   unfolding param_end
-  end_zero e c' = bad param_items s c k c' E (ap (λ (f : ℕ). param_end f (tokens_at s at)) e)
+  end_zero e c' = bad param_items s c k c' E (ap (λ (f : ℕ). param_end f (tokens_at s at)) (none_left left e))
 
-  module _ (ne : left ≡ 0 → ⊥) (t : Tok) (l : Looked s at t) where
-    unrolled : E ≡ param_end (suc (left - 1)) (tokens_at s at)
-    unrolled = let e : left ≡ suc (left - 1) = omega arith in ap (λ (f : ℕ). param_end f (tokens_at s at)) e
+  module _ (less : ℕ) (ok : (1 ≤ left) × (less ≡ left - 1)) (t : Tok) (l : Looked s at t) where
+    unrolled : E ≡ param_end (suc less) (tokens_at s at)
+    unrolled = ap (λ (f : ℕ). param_end f (tokens_at s at)) (one_less left less ok)
 
     module _ (n₁ : is_mark_kind 44 t.kind ≡ false) where
       closing : E ≡ wanted 41 (tokens_at s at) (λ us. reads closed us)
       unfolding param_end
       closing = unrolled ∙ failed (begins 44 (tokens_at s at)) _ (wanted 41 (tokens_at s at) (λ us. reads closed us)) (misses s at t l 44 n₁)
 
-      pub end_open : is_mark_kind 41 t.kind ≡ false → (c' : List ℕ) → outcome s None c' ≡ emits param_items c k E
+      pub end_open : is_mark_kind 41 t.kind ≡ false → (c' : Placed) → outcome s None c' ≡ emits param_items c k E
       end_open f c' = bad param_items s c k c' E (closing ∙ wants_not s at t l 41 _ f)
 
-      pub end_close : is_mark_kind 41 t.kind ≡ true → outcome s (Some (spot t.end k)) c ≡ emits param_items c k E
+      pub end_close : is_mark_kind 41 t.kind ≡ true → outcome s (Some t.end) (placed k c) ≡ emits param_items c k E
       unfolding param_items placing
       end_close f = good param_items s c k t.end k c closed E (closing ∙ wants s at t l 41 _ f) refl
 
     module _ (y : is_mark_kind 44 t.kind ≡ true) (u : Tok) (m : Looked s t.end u) where
-      more : E ≡ elim (begins 46 (rest (tokens_at s at))) [ true ↦ dots_end (rest (rest (tokens_at s at))) | false ↦ param_list (left - 1) (rest (tokens_at s at)) ]
+      more : E ≡ elim (begins 46 (rest (tokens_at s at))) [ true ↦ dots_end (rest (rest (tokens_at s at))) | false ↦ param_list less (rest (tokens_at s at)) ]
       unfolding param_end dots_end
       more = unrolled ∙ passed (begins 44 (tokens_at s at)) _ (wanted 41 (tokens_at s at) (λ us. reads closed us)) (sees s at t l 44 y)
 
@@ -610,7 +613,7 @@ module _ (s : List ℕ) (at : ℕ) (left : ℕ) (c : List ℕ) (k : ℕ) where
           ∙ passed (begins 46 (rest (tokens_at s at))) (dots_end (rest (rest (tokens_at s at)))) _ (next ∙ sees s t.end u m 46 f)
           ∙ ap dots_end (ap rest (sym l.rest_is) ∙ sym m.rest_is))
 
-      pub end_list : is_mark_kind 46 u.kind ≡ false → (o : Done) → o ≡ emits param_items c k (param_list (left - 1) (tokens_at s t.end)) → o ≡ emits param_items c k E
+      pub end_list : is_mark_kind 46 u.kind ≡ false → (o : Done) → o ≡ emits param_items c k (param_list less (tokens_at s t.end)) → o ≡ emits param_items c k E
       end_list f o q =
           through
           param_items
@@ -623,22 +626,22 @@ module _ (s : List ℕ) (at : ℕ) (left : ℕ) (c : List ℕ) (k : ℕ) where
           q
           (more
           ∙ failed (begins 46 (rest (tokens_at s at))) (dots_end (rest (rest (tokens_at s at)))) _ (next ∙ misses s t.end u m 46 f)
-          ∙ ap (param_list (left - 1)) (sym l.rest_is))
+          ∙ ap (param_list less) (sym l.rest_is))
 
 -- a prototype's parameters
 module _ (s : List ℕ) (at : ℕ) (left : ℕ) (c : List ℕ) (k : ℕ) where
   abbrev R : Reads Span (Params Span)
   R = params left (tokens_at s at)
 
-  pub params_zero : left ≡ 0 → (c' : List ℕ) → outcome s None c' ≡ emits proto_items c k R
+  pub params_zero : (1 ≤ left → ⊥) → (c' : Placed) → outcome s None c' ≡ emits proto_items c k R
   unfolding params
-  params_zero e c' = bad proto_items s c k c' R (ap (λ (f : ℕ). params f (tokens_at s at)) e)
+  params_zero e c' = bad proto_items s c k c' R (ap (λ (f : ℕ). params f (tokens_at s at)) (none_left left e))
 
-  module _ (ne : left ≡ 0 → ⊥) (t : Tok) (l : Looked s at t) where
-    rolled : R ≡ params (suc (left - 1)) (tokens_at s at)
-    rolled = let e : left ≡ suc (left - 1) = omega arith in ap (λ (f : ℕ). params f (tokens_at s at)) e
+  module _ (less : ℕ) (ok : (1 ≤ left) × (less ≡ left - 1)) (t : Tok) (l : Looked s at t) where
+    rolled : R ≡ params (suc less) (tokens_at s at)
+    rolled = ap (λ (f : ℕ). params f (tokens_at s at)) (one_less left less ok)
 
-    pub params_close : is_mark_kind 41 t.kind ≡ true → (z : ℕ) (c₁ : List ℕ) → placed z c₁ ≡ placing c k (item 4 0 0 ∷ []) → outcome s (Some (spot t.end z)) c₁ ≡ emits proto_items c k R
+    pub params_close : is_mark_kind 41 t.kind ≡ true → (z : ℕ) (c₁ : List ℕ) → placed z c₁ ≡ placing c k (item 4 0 0 ∷ []) → outcome s (Some t.end) (placed z c₁) ≡ emits proto_items c k R
     unfolding params param_items
     params_close f z c₁ e =
         good
@@ -655,7 +658,7 @@ module _ (s : List ℕ) (at : ℕ) (left : ℕ) (c : List ℕ) (k : ℕ) where
         e
 
     module _ (n₁ : is_mark_kind 41 t.kind ≡ false) (v : Bool) (ev : v ≡ void_before 41 (tokens_at s at)) where
-      listed : R ≡ elim (void_before 41 (tokens_at s at)) [ true ↦ reads closed (rest (rest (tokens_at s at))) | false ↦ param_list (left - 1) (tokens_at s at) ]
+      listed : R ≡ elim (void_before 41 (tokens_at s at)) [ true ↦ reads closed (rest (rest (tokens_at s at))) | false ↦ param_list less (tokens_at s at) ]
       unfolding params
       listed = rolled ∙ failed (begins 41 (tokens_at s at)) (reads closed (rest (tokens_at s at))) _ (misses s at t l 41 n₁)
 
@@ -663,7 +666,7 @@ module _ (s : List ℕ) (at : ℕ) (left : ℕ) (c : List ℕ) (k : ℕ) where
       void_is = sym ev
 
       pub params_void : v ≡ true → (u : Tok) → Looked s t.end u → (z : ℕ) (c₁ : List ℕ) → placed z c₁ ≡ placing c k (item 4 0 0 ∷ [])
-          → outcome s (Some (spot u.end z)) c₁ ≡ emits proto_items c k R
+          → outcome s (Some u.end) (placed z c₁) ≡ emits proto_items c k R
       unfolding param_items
       params_void f u m z c₁ e =
           good
@@ -682,11 +685,11 @@ module _ (s : List ℕ) (at : ℕ) (left : ℕ) (c : List ℕ) (k : ℕ) where
           e
 
       pub params_list : v ≡ false → (z : ℕ) (c₁ : List ℕ) → placed z c₁ ≡ placing c k (item 4 1 0 ∷ [])
-          → (o : Done) → o ≡ emits param_items c₁ z (param_list (left - 1) (tokens_at s at)) → o ≡ emits proto_items c k R
+          → (o : Done) → o ≡ emits param_items c₁ z (param_list less (tokens_at s at)) → o ≡ emits proto_items c k R
       unfolding emits
       params_list f z c₁ p o q =
           q
-          ∙ go (param_list (left - 1) (tokens_at s at)) (list_all (left - 1) (tokens_at s at))
+          ∙ go (param_list less (tokens_at s at)) (list_all less (tokens_at s at))
           ∙ sym (ap (emits proto_items c k) (listed ∙ failed (void_before 41 (tokens_at s at)) (reads closed (rest (rest (tokens_at s at)))) _ (void_is ∙ f)))
         where
           go : (x : Reads Span (Params Span)) → All Any x → emits param_items c₁ z x ≡ emits proto_items c k x
@@ -710,18 +713,18 @@ module _ (s : List ℕ) (at : ℕ) (left : ℕ) (c : List ℕ) (k : ℕ) where
   abbrev Q : Reads Span (Params Span)
   Q = param_list left (tokens_at s at)
 
-  pub list_zero : left ≡ 0 → (c' : List ℕ) → outcome s None c' ≡ emits param_items c k Q
+  pub list_zero : (1 ≤ left → ⊥) → (c' : Placed) → outcome s None c' ≡ emits param_items c k Q
   unfolding param_list
-  list_zero e c' = bad param_items s c k c' Q (ap (λ (f : ℕ). param_list f (tokens_at s at)) e)
+  list_zero e c' = bad param_items s c k c' Q (ap (λ (f : ℕ). param_list f (tokens_at s at)) (none_left left e))
 
-  module _ (ne : left ≡ 0 → ⊥) (v₁ : Bool) (e₁ : v₁ ≡ void_before 41 (tokens_at s at)) where
-    opens : Q ≡ param_list (suc (left - 1)) (tokens_at s at)
-    opens = let e : left ≡ suc (left - 1) = omega arith in ap (λ (f : ℕ). param_list f (tokens_at s at)) e
+  module _ (less : ℕ) (ok : (1 ≤ left) × (less ≡ left - 1)) (v₁ : Bool) (e₁ : v₁ ≡ void_before 41 (tokens_at s at)) where
+    opens : Q ≡ param_list (suc less) (tokens_at s at)
+    opens = ap (λ (f : ℕ). param_list f (tokens_at s at)) (one_less left less ok)
 
     is_41 : void_before 41 (tokens_at s at) ≡ v₁
     is_41 = sym e₁
 
-    pub list_void : v₁ ≡ true → (c' : List ℕ) → outcome s None c' ≡ emits param_items c k Q
+    pub list_void : v₁ ≡ true → (c' : Placed) → outcome s None c' ≡ emits param_items c k Q
     unfolding param_list
     list_void f c' = bad param_items s c k c' Q (opens ∙ passed (void_before 41 (tokens_at s at) || void_before 44 (tokens_at s at)) fails _ (rw (is_41 ∙ f)))
 
@@ -729,7 +732,7 @@ module _ (s : List ℕ) (at : ℕ) (left : ℕ) (c : List ℕ) (k : ℕ) where
       is_44 : void_before 44 (tokens_at s at) ≡ v₂
       is_44 = sym e₂
 
-      pub list_void_more : v₂ ≡ true → (c' : List ℕ) → outcome s None c' ≡ emits param_items c k Q
+      pub list_void_more : v₂ ≡ true → (c' : Placed) → outcome s None c' ≡ emits param_items c k Q
       unfolding param_list
       list_void_more f c' =
           bad param_items s c k c' Q (opens ∙ passed (void_before 41 (tokens_at s at) || void_before 44 (tokens_at s at)) fails _ (rw (is_41 ∙ n₁, is_44 ∙ f)))
@@ -744,21 +747,21 @@ module _ (s : List ℕ) (at : ℕ) (left : ℕ) (c : List ℕ) (k : ℕ) where
         abbrev K : ℕ → Reads Span (Params Span)
         K f = and_then (declarator f false us) (λ l vs. and_then (param_end f vs) (λ ps xs. reads (param (qual_run (tokens_at s at)) ws l ps) xs))
 
-        based : Q ≡ elim (begins_base s at false) [ true ↦ K (left - 1) | false ↦ fails ]
+        based : Q ≡ elim (begins_base s at false) [ true ↦ K less | false ↦ fails ]
         unfolding param_list read_base begins_base
         based = opens ∙ failed (void_before 41 (tokens_at s at) || void_before 44 (tokens_at s at)) fails _ (rw (is_41 ∙ n₁, is_44 ∙ n₂))
 
-        pub list_baseless : BaseAt s at false None → (c' : List ℕ) → outcome s None c' ≡ emits param_items c k Q
-        list_baseless f c' = bad param_items s c k c' Q (based ∙ failed _ (K (left - 1)) fails f)
+        pub list_baseless : BaseAt s at false None → (c' : Placed) → outcome s None c' ≡ emits param_items c k Q
+        list_baseless f c' = bad param_items s c k c' Q (based ∙ failed _ (K less) fails f)
 
         module _ (b : Base) (a : BaseOf s at false b) where
-          here : Q ≡ K (left - 1)
-          here = based ∙ passed _ (K (left - 1)) fails a.begun
+          here : Q ≡ K less
+          here = based ∙ passed _ (K less) fails a.begun
 
-          same : declarator (left - 1) false us ≡ declarator (left - 1) false (tokens_at s b.end)
-          same = ap (declarator (left - 1) false) (sym a.rest_is)
+          same : declarator less false us ≡ declarator less false (tokens_at s b.end)
+          same = ap (declarator less false) (sym a.rest_is)
 
-          pub list_fails : (c₁ : List ℕ) → outcome s None c₁ ≡ emits layer_items c k (declarator (left - 1) false (tokens_at s b.end)) → outcome s None c₁ ≡ emits param_items c k Q
+          pub list_fails : (c₁ : Placed) → outcome s None c₁ ≡ emits layer_items c k (declarator less false (tokens_at s b.end)) → outcome s None c₁ ≡ emits param_items c k Q
           list_fails c₁ e =
               bad
               param_items
@@ -767,25 +770,25 @@ module _ (s : List ℕ) (at : ℕ) (left : ℕ) (c : List ℕ) (k : ℕ) where
               k
               c₁
               Q
-              (here ∙ then_fails (declarator (left - 1) false us) _ (same ∙ split_bad layer_items s c k c₁ (declarator (left - 1) false (tokens_at s b.end)) e))
+              (here ∙ then_fails (declarator less false us) _ (same ∙ split_bad layer_items s c k c₁ (declarator less false (tokens_at s b.end)) e))
 
-          pub list_good : (r : Spot) (c₁ : List ℕ) → outcome s (Some r) c₁ ≡ emits layer_items c k (declarator (left - 1) false (tokens_at s b.end))
-              → (o : Done) → o ≡ emits (behind_items b) c₁ r.n (param_end (left - 1) (tokens_at s r.at)) → o ≡ emits param_items c k Q
+          pub list_good : (r j : ℕ) (c₁ : List ℕ) → outcome s (Some r) (placed j c₁) ≡ emits layer_items c k (declarator less false (tokens_at s b.end))
+              → (o : Done) → o ≡ emits (behind_items b) c₁ j (param_end less (tokens_at s r)) → o ≡ emits param_items c k Q
           unfolding emits and_then param_items
-          list_good r c₁ e o q = q ∙ go (param_end (left - 1) (tokens_at s r.at)) ∙ sym (ap (emits param_items c k) read_it)
+          list_good r j c₁ e o q = q ∙ go (param_end less (tokens_at s r)) ∙ sym (ap (emits param_items c k) read_it)
             where
-              w : Read layer_items s r c₁ c k (declarator (left - 1) false (tokens_at s b.end))
-              w = split layer_items s c k r c₁ (declarator (left - 1) false (tokens_at s b.end)) e
+              w : Read layer_items s r j c₁ c k (declarator less false (tokens_at s b.end))
+              w = split layer_items s c k r j c₁ (declarator less false (tokens_at s b.end)) e
 
-              read_it : Q ≡ and_then (param_end (left - 1) (tokens_at s r.at)) (λ ps xs. reads (param (qual_run (tokens_at s at)) ws w.value ps) xs)
-              read_it = here ∙ then_reads (declarator (left - 1) false us) w.value (tokens_at s r.at) _ (same ∙ w.reads_it)
+              read_it : Q ≡ and_then (param_end less (tokens_at s r)) (λ ps xs. reads (param (qual_run (tokens_at s at)) ws w.value ps) xs)
+              read_it = here ∙ then_reads (declarator less false us) w.value (tokens_at s r) _ (same ∙ w.reads_it)
 
-              go : (x : Reads Span (Params Span)) → emits (behind_items b) c₁ r.n x ≡ emits param_items c k (and_then x (λ ps xs. reads (param (qual_run (tokens_at s at)) ws w.value ps) xs))
+              go : (x : Reads Span (Params Span)) → emits (behind_items b) c₁ j x ≡ emits param_items c k (and_then x (λ ps xs. reads (param (qual_run (tokens_at s at)) ws w.value ps) xs))
               go (reads ps xs) =
                   ap
                   (done xs)
                   (ap
-                  (placing c₁ r.n)
+                  (placing c₁ j)
                   (base_items_lem b (qual_run (tokens_at s at)) ws a.quals_are a.from_is a.to_is (base_kind ps) (param_items ps))
                   ∙ ap (λ (z : Placed). on z (qual_items (qual_run (tokens_at s at)) ++ (base_item (base_kind ps) ws ∷ param_items ps))) w.stores
                   ∙ sym (placing_on c k (layer_items w.value) (qual_items (qual_run (tokens_at s at)) ++ (base_item (base_kind ps) ws ∷ param_items ps))))

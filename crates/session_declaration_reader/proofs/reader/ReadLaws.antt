@@ -4,11 +4,12 @@ use Prim.Native.Nat.{ℕ, suc, ◌+◌, ◌≤◌, ◌<◌}
 use mathlib.Core.Path.{◌≡◌, refl, ap, sym, subst, ◌∙◌}
 use mathlib.Core.Bool.{Bool, true, false}
 use mathlib.Core.List.{List, [], ◌∷◌, ◌++◌, append-nil, append_assoc}
-use mathlib.Core.Logic.{◌⊎◌, inl, inr, ⊎_elim}
+use mathlib.Core.Logic.{⊎_elim}
 use native.Mathlib.Omega.{arith}
-use borrow.Author.Tests.{lt-ltb, le-ltb, le-leb, lt-leb, leb-true, leb-false}
+use borrow.Author.Tests.{le-leb, lt-leb}
 use lib.ListN.{length, replicate, length-append}
-use lib.Dec.{ltb, leb}
+use lib.Dec.{leb}
+use Rattle.spec_bytes.proofs.words.Laws.{le_or_lt}
 use Rattle.spec_c_dumper.specs.rules.Types.{Qualifier}
 use Rattle.session_declaration_reader.specs.grammar.Chain.{Layers, named, pointer, array, proto, Params, closed, dots, param, Chain, layer_entries, param_entries, entries}
 use Rattle.session_declaration_reader.specs.tokens.Tokens.{Token, qual, word, number, mark, tag_word, void_word, other_word}
@@ -23,12 +24,11 @@ use Rattle.session_declaration_reader.specs.bases.Looking.{begins_base, BaseOf, 
 use Rattle.session_declaration_reader.specs.grammar.Emission.{outcome, emits}
 use Rattle.session_declaration_reader.specs.declared.tokens.Tok.{Tok}
 use Rattle.session_declaration_reader.specs.declared.bases.Base.{Base}
-use Rattle.session_declaration_reader.specs.declared.bases.items.Spot.{Spot}
 use Rattle.session_declaration_reader.specs.declared.token_kind.TokenKind.{TokenKind}
 use Rattle.session_declaration_reader.specs.declared.token_kind.TokenKind.TheVariants as kinds
 use Rattle.session_declaration_reader.specs.declared.token_kind.TokenKind.TheVariants.{End, Tag, Void, Word, Count, Mark}
 use Rattle.session_declaration_reader.proofs.tokens.Cases.{false_true, passed, failed}
-use Rattle.session_declaration_reader.proofs.bases.ItemLaws.{placing_then}
+use Rattle.session_declaration_reader.proofs.bases.ItemLaws.{placing_then, more_few, more_many}
 use Rattle.session_declaration_reader.proofs.grammar.ParseLaws as parse
 
 abbrev Ts : Type 0
@@ -79,25 +79,10 @@ unfolding placing reach
 reach_is t n [] = refl
 reach_is t n (i ∷ is) = reach_is (put_item t n i) (one_more n) is
 
-more_few : (n : ℕ) → n < 512 → one_more n ≡ n + 1
-unfolding one_more
-more_few n h = passed (ltb n 512) (n + 1) 513 (lt-ltb n 512 h)
-
-more_many : (n : ℕ) → 512 ≤ n → one_more n ≡ 513
-unfolding one_more
-more_many n h = failed (ltb n 512) (n + 1) 513 (le-ltb n 512 h)
-
 reach_few : (n : ℕ) (is : List Item) → n + length is ≤ 512 → reach n is ≡ n + length is
 unfolding reach
 reach_few n [] h = omega arith
 reach_few n (i ∷ is) h = ap (λ (x : ℕ). reach x is) (more_few n (omega arith)) ∙ reach_few (n + 1) is (omega arith) ∙ omega arith
-
-le_or_lt : (a b : ℕ) → (a ≤ b) ⊎ (b < a)
-le_or_lt a b = go (leb a b) refl
-  where
-    go : (t : Bool) → leb a b ≡ t → (a ≤ b) ⊎ (b < a)
-    go true e = inl (leb-true a b e)
-    go false e = inr (leb-false a b e)
 
 reach_many : (is : List Item) (n : ℕ) → n ≤ 513 → 512 < n + length is → 512 < reach n is
 unfolding reach
@@ -201,7 +186,7 @@ module _ (s : List ℕ) (c : List ℕ) where
     same : declarator most true us ≡ declarator 2056 true (tokens_at s b.end)
     same = ap (declarator 2056 true) (sym a.rest_is)
 
-    pub read_fails : (c₁ : List ℕ) → outcome s None c₁ ≡ emits layer_items c 0 (declarator 2056 true (tokens_at s b.end))
+    pub read_fails : (c₁ : Placed) → outcome s None c₁ ≡ emits layer_items c 0 (declarator 2056 true (tokens_at s b.end))
         → read_with (places (length s)) s ≡ refused
     unfolding whole
     read_fails c₁ e =
@@ -210,35 +195,36 @@ module _ (s : List ℕ) (c : List ℕ) where
         (here ∙ parse.then_fails (declarator most true us) _ (same ∙ parse.split_bad layer_items s c 0 c₁ (declarator 2056 true (tokens_at s b.end)) e))
         refl
 
-    module _ (r : Spot) (c₁ : List ℕ) (e : outcome s (Some r) c₁ ≡ emits layer_items c 0 (declarator 2056 true (tokens_at s b.end))) (t : Tok) (l : Looked s r.at t) where
-      w : parse.Read layer_items s r c₁ c 0 (declarator 2056 true (tokens_at s b.end))
-      w = parse.split layer_items s c 0 r c₁ (declarator 2056 true (tokens_at s b.end)) e
+    module _ (r j : ℕ) (c₁ : List ℕ) (e : outcome s (Some r) (placed j c₁) ≡ emits layer_items c 0 (declarator 2056 true (tokens_at s b.end))) (t : Tok) (l : Looked s r t) where
+      w : parse.Read layer_items s r j c₁ c 0 (declarator 2056 true (tokens_at s b.end))
+      w = parse.split layer_items s c 0 r j c₁ (declarator 2056 true (tokens_at s b.end)) e
 
-      is : read_tokens ts ≡ reads (made w.value) (tokens_at s r.at)
-      is = here ∙ parse.then_reads (declarator most true us) w.value (tokens_at s r.at) _ (same ∙ w.reads_it)
+      is : read_tokens ts ≡ reads (made w.value) (tokens_at s r)
+      is = here ∙ parse.then_reads (declarator most true us) w.value (tokens_at s r) _ (same ∙ w.reads_it)
 
       pub read_behind : (t.kind ≡ End → ⊥) → read_with (places (length s)) s ≡ refused
-      read_behind f = refuses (reads (made w.value) (tokens_at s r.at)) is (goes_on (made w.value) (tokens_at s r.at) (λ q. f (l.kind_is ∙ q)))
+      read_behind f = refuses (reads (made w.value) (tokens_at s r)) is (goes_on (made w.value) (tokens_at s r) (λ q. f (l.kind_is ∙ q)))
 
-      module _ (z : t.kind ≡ End) (n : ℕ) (c₂ : List ℕ) (p : placed n c₂ ≡ placing c₁ r.n (base_items b 1)) where
+      module _ (z : t.kind ≡ End) (n : ℕ) (c₂ : List ℕ) (p : placed n c₂ ≡ placing c₁ j (base_items b 1)) where
         ended : read_tokens ts ≡ reads (made w.value) []
-        ended = is ∙ ap (reads (made w.value)) (ends_text (tokens_at s r.at) (ap is_end_kind (sym l.kind_is ∙ z)))
+        ended = is ∙ ap (reads (made w.value)) (ends_text (tokens_at s r) (ap is_end_kind (sym l.kind_is ∙ z)))
 
         stored : placed n c₂ ≡ placing c 0 (chain_items (made w.value))
         unfolding chain_items
         stored =
             let q : base_items b 1 ≡ qual_items (qual_run ts) ++ (base_item 1 ws ∷ []) =
             sym (append-nil (base_items b 1)) ∙ parse.base_items_lem b (qual_run ts) ws a.quals_are a.from_is a.to_is 1 [] in
-            placing_then c 0 (layer_items w.value) (qual_items (qual_run ts) ++ (base_item 1 ws ∷ [])) r.n c₁ n c₂ w.stores (p ∙ ap (placing c₁ r.n) q)
+            placing_then c 0 (layer_items w.value) (qual_items (qual_run ts) ++ (base_item 1 ws ∷ [])) j c₁ n c₂ w.stores (p ∙ ap (placing c₁ j) q)
 
         pub read_over : 512 < n → read_with (places (length s)) s ≡ refused
         unfolding whole
         read_over f = refuses (reads (made w.value) []) ended (many_entries c (made w.value) n c₂ stored f)
 
-        pub read_good : n ≤ 512 → (placed n c₂ ≡ read_into s c) × (0 < n)
+        -- u: the words that were lent, as they stand when the chain is read
+        pub read_good : n ≤ 512 → (u : List ℕ) → u ≡ c₂ → (placed n u ≡ read_into s c) × (0 < n)
         unfolding whole placed_chain chain_items
-        read_good f = (
-          stored ∙ sym (answers (reads (made w.value) []) ended ∙ ap (placed_chain c) (few_entries c (made w.value) n c₂ stored f)),
+        read_good f u eu = (
+          ap (placed n) eu ∙ stored ∙ sym (answers (reads (made w.value) []) ended ∙ ap (placed_chain c) (few_entries c (made w.value) n c₂ stored f)),
           omega (arith, reached c (made w.value) n c₂ stored, some_item),
         )
           where

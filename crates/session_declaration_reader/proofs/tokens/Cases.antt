@@ -1,11 +1,10 @@
 -- A test that passed, and one that failed. Assumes nothing.
-use Prim.Native.Nat.{ℕ}
 use mathlib.Core.Path.{◌≡◌, refl, sym}
 use mathlib.Core.Bool.{Bool, true, false}
-use native.Mathlib.Omega.{arith}
+use Rattle.std.proofs.lemmas.Bool.{false≢true}
 
 pub false_true : false ≡ true → ⊥
-false_true q = let k : ◌≡◌ {A = ℕ} 0 1 = cc in omega arith
+false_true = false≢true
 
 pub passed : {A : Type 0} → (b : Bool) (x y : A) → b ≡ true → elim b [ true ↦ x | false ↦ y ] ≡ x
 passed true x y e = refl

@@ -1,7 +1,8 @@
 -- The entries of a chain as three words.
-use Rattle.std.specs.Prelude.{ℕ, Bool, true, false}
-use Rattle.session_declaration_reader.specs.bases.Items.{Item, item}
+use Rattle.std.specs.Prelude.{ℕ, Bool, true, false, List, [], ◌∷◌}
+use Rattle.session_declaration_reader.specs.bases.Items.{Item, item, Placed, placed}
 use Rattle.session_declaration_reader.specs.tokens.Looking.{qualifier_code}
+use Rattle.session_declaration_reader.specs.declared.bases.items.Chain.{Chain}
 use Rattle.session_declaration_reader.specs.declared.bases.items.Entry.{Entry}
 use Rattle.session_declaration_reader.specs.declared.bases.items.Entry.TheVariants.{Base, Pointer, Array}
 use Rattle.session_declaration_reader.specs.declared.bases.items.Entry.TheVariants.{Prototype, Qualifier, FollowedBase}
@@ -22,3 +23,11 @@ item_of (Array count) = item 3 count 0
 item_of (Prototype takes) = item 4 (any_code takes) 0
 item_of (Qualifier q) = item 5 (qualifier_code q) 0
 item_of (FollowedBase start length) = item 6 start length
+
+-- an entry's three words
+abbrev pub item_words : Item → List ℕ
+item_words (item k x y) = k ∷ x ∷ y ∷ []
+
+-- the entries of a chain that is being stored
+abbrev pub stored : Chain → Placed
+stored c = placed c.n c.words.now

@@ -22,8 +22,12 @@ abbrev pub qual_of : Option declared.Qualifier → List Qualifier → List Quali
 qual_of (Some q) qs = qualifier q ∷ qs
 qual_of None qs = qs
 
+abbrev pub quals_in : List (Option declared.Qualifier) → List Qualifier
+quals_in [] = []
+quals_in (q ∷ qs) = qual_of q (quals_in qs)
+
 abbrev pub quals_of : Quals → List Qualifier
-quals_of q = qual_of q.a (qual_of q.b (qual_of q.c []))
+quals_of q = quals_in q.list
 
 -- the qualifiers that stand next, and where they end
 pub record QualsOf (s : List ℕ) (at : ℕ) (q : Quals) : Type 0 where

@@ -10,7 +10,6 @@ use Rattle.session_declaration_reader.specs.bases.Items.{Item, item, Placed, pla
 use Rattle.session_declaration_reader.specs.grammar.Encoding.{any_params, base_kind, param_items}
 use Rattle.session_declaration_reader.specs.bases.Looking.{base_items}
 use Rattle.session_declaration_reader.specs.declared.bases.Base.{Base}
-use Rattle.session_declaration_reader.specs.declared.bases.items.Spot.{Spot}
 
 pub data Done : Type 0 where
   done : List (Token Span) → Placed → Done
@@ -21,10 +20,10 @@ unfoldable pub emits : {A : Type 0} → (A → List Item) → List ℕ → ℕ �
 emits f t n (reads a ts) = done ts (placing t n (f a))
 emits f t n fails = none
 
--- what a spot and the words say
-unfoldable pub outcome : List ℕ → Option Spot → List ℕ → Done
-outcome s (Some r) t = done (tokens_at s r.at) (Placed.placed r.n t)
-outcome s None t = none
+-- what a place of the text and the entries stored say
+unfoldable pub outcome : List ℕ → Option ℕ → Placed → Done
+outcome s (Some at) p = done (tokens_at s at) p
+outcome s None p = none
 
 -- a prototype and its parameters
 abbrev pub proto_items : Params Span → List Item

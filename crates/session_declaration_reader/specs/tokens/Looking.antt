@@ -10,6 +10,7 @@ use Rattle.session_declaration_reader.specs.declared.token_kind.Qualifier.TheVar
 use Rattle.session_declaration_reader.specs.declared.token_kind.TokenKind.{TokenKind}
 use Rattle.session_declaration_reader.specs.declared.token_kind.TokenKind.TheVariants.{End, Qualifier, Tag, Void, Word, Count, Mark}
 use Rattle.session_declaration_reader.specs.declared.tokens.Tok.{Tok}
+use Rattle.session_declaration_reader.specs.declared.tokens.Cursor.{Cursor}
 
 -- where a word stands in the text
 pub record Span : Type 0 where
@@ -23,6 +24,9 @@ places n left run = record { from = n - (left + length run); to = n - left }
 -- the tokens of the text s from a place on
 unfoldable pub tokens_at : List ℕ → ℕ → List (Token Span)
 tokens_at s at = tokens (places (length s)) [] (drop at s)
+
+abbrev pub tokens_from : Cursor → List (Token Span)
+tokens_from c = tokens_at c.text.now c.at
 
 abbrev pub kind_of_qualifier : rules.Qualifier → declared.Qualifier
 kind_of_qualifier const = Const
@@ -91,13 +95,13 @@ unfoldable pub count_value : List ℕ → Option ℕ
 count_value run = elim (is_count run) [ true ↦ Some (value_of 0 run) | false ↦ None ]
 
 -- what a run is
-unfoldable pub base_kind : List ℕ → TokenKind
+abbrev pub base_kind : List ℕ → TokenKind
 base_kind run = token_kind {W = ℕ} (word (kind_of run) 0)
 
-unfoldable pub word_kind : List ℕ → TokenKind
+abbrev pub word_kind : List ℕ → TokenKind
 word_kind run = token_kind {W = ℕ} (word_token run 0)
 
-unfoldable pub run_kind : List ℕ → TokenKind
+abbrev pub run_kind : List ℕ → TokenKind
 run_kind run = token_kind {W = ℕ} (run_token run 0)
 
 -- where the first byte from a place on stands that is no space

@@ -1,17 +1,21 @@
 // Entries in lent words, three words each.
 ghost use Rattle.std.specs.Prelude.{◌≡◌, [], ◌∷◌, ◌-◌};
-ghost use Rattle.session_declaration_reader.specs.bases.Items.{item, qual_items, placed, placing};
-ghost use Rattle.session_declaration_reader.specs.bases.Entries.{item_of, base_code};
+ghost use Rattle.session_declaration_reader.specs.bases.Items.{item, qual_items, placing};
+ghost use Rattle.session_declaration_reader.specs.bases.Entries.{item_of, item_words, base_code, stored};
 ghost use Rattle.session_declaration_reader.specs.bases.Looking.{qual_of, quals_of, base_items};
 
 use crate::bases::{Base, Quals};
 use crate::token_kind::Qualifier;
 use base_bytes::limit;
 
-// Where reading stands in the text, and how many entries there are.
-#[derive(Clone, Copy)]
-pub struct Spot {
-    pub at: usize,
+// The count of a chain that is too long. It is no refusal: such a chain is read on to its end, as by the definition, and who asked for it
+// looks at the count once. A refusal here would be one more exit behind each entry that the grammar stores.
+const TOO_MANY: u32 = limit::MOST_CALLS + 1;
+
+// A chain that is being stored: the words lent for it, and how many entries it has so far.
+#[derive(Drop)]
+pub struct Chain<'a> {
+    pub words: &'a mut [u64],
     pub n: u32,
 }
 
@@ -30,61 +34,19 @@ pub enum Entry {
 
 impl Entry {
     // Its three words: the kind, and two numbers.
-    fn words(self) -> (u64, u64, u64)
-        ensures { item result.0 result.1 result.2 ≡ item_of self }
+    fn words(self) -> [u64; 3]
+        ensures { result ≡ item_words (item_of self) }
     {
         match self {
-            Entry::Base(start, length) => (1, start, length),
-            Entry::Pointer => (2, 0, 0),
-            Entry::Array(count) => (3, count as u64, 0),
-            Entry::Prototype(true) => (4, 1, 0),
-            Entry::Prototype(false) => (4, 0, 0),
-            Entry::Qualifier(qualifier) => (5, qualifier.code(), 0),
-            Entry::FollowedBase(start, length) => (6, start, length),
+            Entry::Base(start, length) => [1, start, length],
+            Entry::Pointer => [2, 0, 0],
+            Entry::Array(count) => [3, count as u64, 0],
+            Entry::Prototype(true) => [4, 1, 0],
+            Entry::Prototype(false) => [4, 0, 0],
+            Entry::Qualifier(qualifier) => [5, u64::from(qualifier), 0],
+            Entry::FollowedBase(start, length) => [6, start, length],
         }
     }
-}
-
-// Stores three words as entry n, if it is one of 512 and there is room. One more stands for all that are too many: the number of entries
-// goes through all of the grammar, which the definition counts in the same way, and only whoever asked for the chain looks at it.
-fn put_item(chain: &mut [u64], n: u32, kind: u64, x: u64, y: u64) -> u32
-    ensures { placed result chain.new ≡ placing chain.old n (item kind x y ∷ []) }
-{
-    if limit::MOST_CALLS <= n {
-        return limit::MOST_CALLS + 1;
-    }
-    let i = (n as usize) * 3;
-    if chain.len() < i + 3 {
-        return n + 1;
-    }
-    chain[i..i + 3].copy_from_slice(&[kind, x, y]);
-    n + 1
-}
-
-// The words and the number of entries are two parameters: a struct that held the lent words would owe, in each function of the
-// grammar, a clause that it keeps them.
-pub fn put_entry(chain: &mut [u64], n: u32, entry: Entry) -> u32
-    ensures { placed result chain.new ≡ placing chain.old n (item_of entry ∷ []) }
-{
-    let (kind, x, y) = entry.words();
-    put_item(chain, n, kind, x, y)
-}
-
-fn put_qual(chain: &mut [u64], n: u32, qualifier: Option<Qualifier>) -> u32
-    ensures { placed result chain.new ≡ placing chain.old n (qual_items (qual_of qualifier [])) }
-{
-    match qualifier {
-        Some(q) => put_entry(chain, n, Entry::Qualifier(q)),
-        None => n,
-    }
-}
-
-pub fn put_quals(chain: &mut [u64], n: u32, q: Quals) -> u32
-    ensures { placed result chain.new ≡ placing chain.old n (qual_items (quals_of q)) }
-{
-    let a = put_qual(chain, n, q.a);
-    let b = put_qual(chain, a, q.b);
-    put_qual(chain, b, q.c)
 }
 
 fn base_entry(start: u64, length: u64, is_followed: bool) -> Entry
@@ -97,11 +59,49 @@ fn base_entry(start: u64, length: u64, is_followed: bool) -> Entry
     }
 }
 
-// A base behind its qualifiers.
-pub fn put_base(chain: &mut [u64], n: u32, b: Base, is_followed: bool) -> u32
-    ensures { placed result chain.new ≡ placing chain.old n (base_items b (base_code is_followed)) }
-{
-    let m = put_quals(chain, n, b.quals);
-    let length = b.end.saturating_sub(b.start) as u64;
-    put_entry(chain, m, base_entry(b.start as u64, length, is_followed))
+impl Chain<'_> {
+    // Stores the next entry, if it is one of the most and there is room. (No `get_mut`: std says nothing of what the slice ends as then.)
+    pub fn put_entry(&mut self, entry: Entry)
+        ensures stored { stored self.new ≡ placing self.old.words.now self.old.n (item_of entry ∷ []) }
+        ensures same { self.new.words.ghost_name ≡ self.old.words.ghost_name }
+    {
+        if limit::MOST_CALLS <= self.n {
+            self.n = TOO_MANY;
+            return;
+        }
+        let i = (self.n as usize) * 3;
+        self.n += 1;
+        if self.words.len() < i + 3 {
+            return;
+        }
+        self.words[i..i + 3].copy_from_slice(&entry.words());
+    }
+
+    fn put_qual(&mut self, qualifier: Option<Qualifier>)
+        ensures stored { stored self.new ≡ placing self.old.words.now self.old.n (qual_items (qual_of qualifier [])) }
+        ensures same { self.new.words.ghost_name ≡ self.old.words.ghost_name }
+    {
+        if let Some(q) = qualifier {
+            self.put_entry(Entry::Qualifier(q));
+        }
+    }
+
+    pub fn put_quals(&mut self, q: Quals)
+        ensures stored { stored self.new ≡ placing self.old.words.now self.old.n (qual_items (quals_of q)) }
+        ensures same { self.new.words.ghost_name ≡ self.old.words.ghost_name }
+    {
+        for qualifier in q.list {
+            self.put_qual(qualifier);
+        }
+    }
+
+    // A base behind its qualifiers.
+    pub fn put_base(&mut self, b: Base, is_followed: bool)
+        ensures stored { stored self.new ≡ placing self.old.words.now self.old.n (base_items b (base_code is_followed)) }
+        ensures same { self.new.words.ghost_name ≡ self.old.words.ghost_name }
+    {
+        self.put_quals(b.quals);
+        let length = b.end.saturating_sub(b.start) as u64;
+        self.put_entry(base_entry(b.start as u64, length, is_followed));
+    }
 }

@@ -1,12 +1,11 @@
 -- A law for each return of src/lib.rt. Assumes nothing.
-use Prim.Native.Nat.{ℕ, zero, suc, ◌+◌, ◌-◌, ◌/◌, ◌<◌, ◌≤◌}
+use Prim.Native.Nat.{ℕ, zero, suc, ◌+◌, ◌-◌, ◌/◌, ◌≤◌}
 use mathlib.Core.Path.{◌≡◌, refl, ap, ◌∙◌, sym}
 use mathlib.Core.Bool.{Bool, true, false, not}
 use mathlib.Core.List.{List, [], ◌∷◌}
 use native.Mathlib.Omega.{arith}
 use lib.Dec.{leb}
 use lib.ListN.{length}
-use borrow.Author.Tests.{lt-ltb, le-ltb, le-leb, lt-leb}
 use Rattle.spec_bytes.specs.words.Words.{put_word}
 use Rattle.spec_c_dumper.specs.rules.Writer.{Ask, got, no, ask_then}
 use Rattle.spec_type_table.specs.declared.types.TypeTable.{TypeTable}
@@ -14,37 +13,19 @@ use Rattle.spec_type_table.specs.declared.types.BtfType.{BtfType as Record}
 use Rattle.spec_type_table.specs.Records.{record_by_id}
 use Rattle.spec_type_table.specs.Table.{type_of, btf_of}
 use Rattle.spec_session.specs.session.Answers.{Answer, Accepted, Refused}
-use Rattle.spec_session.specs.declared.session.Session.{Session}
-use Rattle.spec_session.specs.session.Turns.{is_current, table_for}
 use Rattle.session_field_at_bit.specs.declared.step.Shape.{Shape as CodeShape}
 use Rattle.session_field_at_bit.specs.declared.step.Shape.TheVariants as shape
 use Rattle.session_field_at_bit.specs.declared.step.Step.{Step as CodeStep}
 use Rattle.session_field_at_bit.specs.declared.step.Step.TheVariants as step
-use Rattle.session_field_at_bit.specs.step.Path.{Shape, shape_of, is_composite, passed, behind, Step, step_in, full, onward, path_from, some_entry, field_path}
-use Rattle.session_field_at_bit.specs.field.Calls.{found_of, put_words, lent_path, field_call}
-use Rattle.session_field_at_bit.proofs.step.Laws.{not_false, not_true}
+use Rattle.session_field_at_bit.specs.step.Path.{shape_of, is_composite, passed, behind, Step, step_in, full, onward, path_from, some_entry, field_path}
+use Rattle.session_field_at_bit.specs.field.Calls.{found_of, put_words, lent_path}
+use Rattle.std.proofs.lemmas.Bool.{not-true, not-false}
 use Rattle.session_field_at_bit.specs.step.Code.{shape_is, step_is, step_asked, asked, Led, led_to, entry_put, entry_before}
 use Rattle.std.specs.Prelude.{Result, Ok, Err}
 use Rattle.spec_bytes.specs.Refusals.{refusal_number}
 use Rattle.spec_bytes.specs.declared.refusal.Refusal.{Refusal}
 use Rattle.spec_bytes.specs.declared.refusal.Refusal.TheVariants.{TooDeep}
 use Rattle.session_field_at_bit.specs.field.Code.{written, answer_to}
-
--- ---- is_composite
-module _ (b : TypeTable) (s : List ℕ) (x : CodeShape) (X : Shape) (ex : shape_is b s x ≡ X) where
-  pub composite_is : (t : Record) → x ≡ shape.Composite t → true ≡ is_composite X
-  unfolding shape_is is_composite
-  composite_is t g = ap is_composite (sym (ap (shape_is b s) g) ∙ ex)
-
-  pub composite_not : ((t : Record) → x ≡ shape.Composite t → ⊥) → false ≡ is_composite X
-  unfolding shape_is is_composite
-  composite_not n = go x n ∙ ap is_composite ex
-    where
-      go : (y : CodeShape) → ((t : Record) → y ≡ shape.Composite t → ⊥) → false ≡ is_composite (shape_is b s y)
-      go (shape.Plain) m = refl
-      go (shape.Through t) m = refl
-      go (shape.Array t) m = refl
-      go (shape.Composite t) m = absurd (m t refl)
 
 -- ---- behind
 module _ (b : TypeTable) (s w : List ℕ) (left id : ℕ) where
@@ -178,22 +159,6 @@ module _ (b : TypeTable) (s w : List ℕ) (path : List ℕ) (id bit n : ℕ) (x 
       unfolding asked entry_before
       walk_refused c gy = sym (ap (λ (x : Result ℕ Refusal). entry_before path' n k (asked x)) gy) ∙ entered_then
 
--- ---- answer_to
-pub answer_none : (room len : ℕ) → len ≡ 0 → Refused 21 0 ≡ answer_to room len
-unfolding answer_to
-answer_none room len e = rw e
-
-module _ (room : ℕ) where
-  pub answer_short : (len : ℕ) → (len ≡ 0 → ⊥) → room < len → Refused 17 0 ≡ answer_to room len
-  unfolding answer_to
-  answer_short zero n h = absurd (n refl)
-  answer_short (suc l) n h = sym (rw (lt-leb (suc l) room h, answer_to))
-
-  pub answer_whole : (len : ℕ) → (len ≡ 0 → ⊥) → len ≤ room → Accepted len ≡ answer_to room len
-  unfolding answer_to
-  answer_whole zero n h = absurd (n refl)
-  answer_whole (suc l) n h = sym (rw (le-leb (suc l) room h, answer_to))
-
 -- ---- find_field
 module _ (b : TypeTable) (s w path : List ℕ) (id bit : ℕ) (t : Record) (et : t ≡ record_by_id b s w id) (q : Bool) (eq : q ≡ is_composite (shape_of (type_of b s t))) where
   is_composite_lem : is_composite (shape_of ((btf_of b s w).type_by_id id)) ≡ q
@@ -202,12 +167,12 @@ module _ (b : TypeTable) (s w path : List ℕ) (id bit : ℕ) (t : Record) (et :
 
   pub field_not : not q ≡ true → found_of (Refused 21 0) path ≡ lent_path path (field_path (btf_of b s w) id bit)
   unfolding field_path lent_path
-  field_not h = let e : field_path (btf_of b s w) id bit ≡ no 21 = rw (is_composite_lem ∙ not_false q h, field_path) in sym (ap (lent_path path) e)
+  field_not h = let e : field_path (btf_of b s w) id bit ≡ no 21 = rw (is_composite_lem ∙ not-true q h, field_path) in sym (ap (lent_path path) e)
 
   module _ (h : not q ≡ false) (y : Result ℕ Refusal) (path' : List ℕ) (ey : led_to (asked y) path' ≡ written path 0 (path_from (512 - 0) (btf_of b s w) id bit)) where
     field_is : field_path (btf_of b s w) id bit ≡ ask_then (path_from (512 - 0) (btf_of b s w) id bit) some_entry
     unfolding field_path
-    field_is = rw (is_composite_lem ∙ not_true q h, field_path)
+    field_is = rw (is_composite_lem ∙ not-false q h, field_path)
 
     pub field_no : (c : Refusal) → y ≡ Err c → found_of (Refused (refusal_number c) 0) path' ≡ lent_path path (field_path (btf_of b s w) id bit)
     unfolding asked written led_to ask_then lent_path
@@ -243,19 +208,3 @@ module _ (b : TypeTable) (s w path : List ℕ) (id bit : ℕ) (t : Record) (et :
             let u : path' ≡ chosen (leb (suc (length p)) (length path / 4)) (put_words path 0 (k ∷ p)) path = ap (λ (x : Led). x.path) e ∙ ap (λ (m : ℕ). chosen (leb m (length path / 4)) (put_words path 0 (k ∷ p)) path) o in
             (λ i. found_of ((ea ∙ ap (answer_to room) (g ∙ o) ∙ ap (λ (m : ℕ). answer_to m (suc (length p))) er) i) (u i))
             ∙ whole (suc (length p)) (put_words path 0 (k ∷ p)) (leb (suc (length p)) (length path / 4))
-
--- ---- which_field
-module _ (s : Session) (section w path : List ℕ) (id bit : ℕ) (q : Bool) (eq : q ≡ is_current s (length section) (length w) s.text_len) where
-  pub call_11 : not q ≡ true → found_of (Refused 11 0) path ≡ field_call s section w path id bit
-  unfolding field_call
-  call_11 h = sym (rw (sym eq ∙ not_false q h, field_call))
-
-  module _ (h : not q ≡ false) where
-    pub call_10 : s.types ≤ id → found_of (Refused 10 0) path ≡ field_call s section w path id bit
-    unfolding field_call
-    call_10 l = sym (rw (sym eq ∙ not_true q h, field_call, le-ltb id s.types l))
-
-    pub call_is : id < s.types → (b : TypeTable) (a : Answer) (path' : List ℕ) → b ≡ table_for s section → found_of a path' ≡ lent_path path (field_path (btf_of b section w) id bit) → found_of a path' ≡ field_call s section w path id bit
-    unfolding field_call
-    call_is l b a path' eb ea =
-        ea ∙ ap (λ (z : TypeTable). lent_path path (field_path (btf_of z section w) id bit)) eb ∙ sym (rw (sym eq ∙ not_true q h, field_call, lt-ltb id s.types l))

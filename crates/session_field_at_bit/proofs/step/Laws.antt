@@ -1,15 +1,12 @@
 -- A law for each return of the code of a step and of an entry. Assumes nothing.
-use Prim.Native.Nat.{ℕ, suc, ◌+◌, ◌-◌, ◌*◌, ◌/◌, ◌%◌, ◌<◌, ◌≤◌}
+use Prim.Native.Nat.{ℕ, suc, ◌+◌, ◌-◌, ◌<◌, ◌≤◌}
 use mathlib.Core.Path.{◌≡◌, refl, ap, ◌∙◌, sym}
-use mathlib.Core.Bool.{Bool, true, false, not}
+use mathlib.Core.Bool.{Bool, true, false}
 use mathlib.Core.List.{List}
 use native.Mathlib.Omega.{arith}
 use lib.Dec.{eqb}
-use lib.ListN.{length}
-use borrow.Author.Tests.{lt-ltb, le-ltb, le-leb, lt-leb, ne_eqb}
-use Rattle.spec_bytes.specs.words.Words.{put_word}
 use Rattle.spec_c_dumper.specs.rules.Writer.{Ask, got, no, ask_then}
-use Rattle.spec_c_dumper.specs.rules.Layout.{get_size_of, end_of}
+use Rattle.spec_c_dumper.specs.rules.Layout.{end_of}
 use Rattle.spec_type_table.specs.declared.types.TypeTable.{TypeTable}
 use Rattle.spec_type_table.specs.declared.types.BtfType.{BtfType as Record}
 use Rattle.spec_type_table.specs.declared.types.BtfMember.{BtfMember}
@@ -17,57 +14,13 @@ use Rattle.spec_type_table.specs.Records.{vlen_of, member_of}
 use Rattle.spec_type_table.specs.Table.{from, rule_member, members_of, btf_of}
 use Rattle.spec_bytes.specs.declared.refusal.Refusal.{Refusal}
 use Rattle.spec_bytes.specs.Refusals.{refusal_number}
-use Rattle.btf_layout.specs.size.Answers.{ask_of}
-use Rattle.session_field_at_bit.specs.declared.step.Shape.{Shape as CodeShape}
-use Rattle.session_field_at_bit.specs.declared.step.Shape.TheVariants as shape
 use Rattle.session_field_at_bit.specs.declared.step.Step.{Step as CodeStep}
 use Rattle.session_field_at_bit.specs.declared.step.Step.TheVariants as step
-use Rattle.session_field_at_bit.specs.step.Path.{Step, stay, enter, field, covers, entered, tried, placed, step_in}
-use Rattle.session_field_at_bit.specs.step.Code.{shape_is, step_is, step_asked, member_step, entry_put}
+use Rattle.session_field_at_bit.specs.step.Path.{Step, stay, enter, field, covers, entered, tried}
+use Rattle.session_field_at_bit.specs.step.Code.{step_is, step_asked, member_step}
 use Rattle.std.specs.Prelude.{Result, Ok, Err}
 
--- ---- member_step
-module _ (m : BtfMember) (k end bit : ℕ) where
-  pub step_before : bit < m.bit_offset → step_is step.Stay ≡ member_step m k end bit
-  unfolding step_is member_step covers
-  step_before h = sym (rw (lt-leb m.bit_offset bit h, member_step, covers))
-
-  module _ (h : m.bit_offset ≤ bit) where
-    pub step_after : end ≤ bit → step_is step.Stay ≡ member_step m k end bit
-    unfolding step_is member_step covers
-    step_after l = sym (rw (le-leb m.bit_offset bit h, member_step, covers, le-ltb bit end l))
-
-    module _ (l : bit < end) where
-      pub step_field : (m.bit_size ≡ 0 → ⊥) → step_is (step.Field k) ≡ member_step m k end bit
-      unfolding step_is member_step covers
-      step_field n = sym (rw (le-leb m.bit_offset bit h, member_step, covers, lt-ltb bit end l, ne_eqb m.bit_size 0 n))
-
-      pub step_enter : m.bit_size ≡ 0 → step_is (step.Enter k m.type_id (bit - m.bit_offset)) ≡ member_step m k end bit
-      unfolding step_is member_step covers
-      step_enter z = sym (rw (le-leb m.bit_offset bit h, member_step, covers, lt-ltb bit end l, z))
-
--- ---- an answer asked, and what is made of it
-module _ (q : Result ℕ Refusal) (Q : Ask ℕ) (eq : ask_of q ≡ Q) (f : ℕ → Step) where
-  pub asked_got : (n : ℕ) (r : CodeStep) → q ≡ Ok n → step_is r ≡ f n → step_asked (Ok r) ≡ ask_then Q (λ n. got (f n))
-  unfolding ask_of ask_then step_asked
-  asked_got n r g er = ap got er ∙ ap (λ (z : Ask ℕ). ask_then z (λ n. got (f n))) (sym (ap ask_of g) ∙ eq)
-
-  pub asked_no : (c : Refusal) → q ≡ Err c → step_asked (Err c) ≡ ask_then Q (λ n. got (f n))
-  unfolding ask_of ask_then step_asked
-  asked_no c g = ap (λ (z : Ask ℕ). ask_then z (λ n. got (f n))) (sym (ap ask_of g) ∙ eq)
-
 -- ---- the loop of find_member
-pub not_false : (x : Bool) → not x ≡ true → x ≡ false
-not_false true e = sym e
-not_false false e = refl
-
-pub not_true : (x : Bool) → not x ≡ false → x ≡ true
-not_true true e = refl
-not_true false e = sym e
-
-clash : {P : Type 0} → true ≡ false → P
-clash e = let z : ◌≡◌ {A = ℕ} 0 1 = cc in absurd (omega arith)
-
 module _ (b : TypeTable) (s w : List ℕ) (t : Record) (bit : ℕ) where
   -- what the members from k on say
   pub tried_rest : ℕ → Ask Step
@@ -147,45 +100,3 @@ module _ (b : TypeTable) (s w : List ℕ) (t : Record) (bit : ℕ) where
   tried_end T k n i en l =
       let z : vlen_of t.info - k ≡ 0 = omega arith in
       sym (i ∙ ap (λ (n : ℕ). tried (btf_of b s w) bit k (from (λ i. rule_member b s (member_of b s t i)) k n)) z)
-
--- ---- place_of
-module _ (t size bit : ℕ) where
-  pub place_none : size ≡ 0 → step_is step.Stay ≡ placed t size bit
-  unfolding step_is placed
-  place_none e = rw e
-
-  place_some : (size ≡ 0 → ⊥) → step_is (step.Enter (bit / (size * 8)) t (bit % (size * 8))) ≡ placed t size bit
-  unfolding step_is placed
-  place_some n = sym (rw (ne_eqb size 0 n, placed))
-
-  -- the code has both numbers in 64 bits
-  pub place_is : (size ≡ 0 → ⊥) → (n a : ℕ) → n ≡ size → a ≡ bit → step_is (step.Enter (a / (n * 8)) t (a % (n * 8))) ≡ placed t size bit
-  place_is some n a en ea = (λ i. step_is (step.Enter (ea i / (en i * 8)) t (ea i % (en i * 8)))) ∙ place_some some
-
--- ---- next_step
-module _ (b : TypeTable) (s w : List ℕ) (bit : ℕ) (x : CodeShape) where
-  pub next_plain : x ≡ shape.Plain → step_asked (Ok step.Stay) ≡ step_in (btf_of b s w) bit (shape_is b s x)
-  unfolding step_is step_asked step_in shape_is
-  next_plain g = sym (ap (λ (z : CodeShape). step_in (btf_of b s w) bit (shape_is b s z)) g)
-
-  pub next_through : (t : ℕ) → x ≡ shape.Through t → step_asked (Ok step.Stay) ≡ step_in (btf_of b s w) bit (shape_is b s x)
-  unfolding step_is step_asked step_in shape_is
-  next_through t g = sym (ap (λ (z : CodeShape). step_in (btf_of b s w) bit (shape_is b s z)) g)
-
-  pub next_array : (t : ℕ) (r : Result CodeStep Refusal) → x ≡ shape.Array t → step_asked r ≡ ask_then (get_size_of 512 (btf_of b s w) t) (λ size. got (placed t size bit)) → step_asked r ≡ step_in (btf_of b s w) bit (shape_is b s x)
-  unfolding step_in shape_is
-  next_array t r g er = er ∙ sym (ap (λ (z : CodeShape). step_in (btf_of b s w) bit (shape_is b s z)) g)
-
-  pub next_composite : (t : Record) (r : Result CodeStep Refusal) → x ≡ shape.Composite t → step_asked r ≡ tried (btf_of b s w) bit 0 (members_of b s t) → step_asked r ≡ step_in (btf_of b s w) bit (shape_is b s x)
-  unfolding step_in shape_is
-  next_composite t r g er = er ∙ sym (ap (λ (z : CodeShape). step_in (btf_of b s w) bit (shape_is b s z)) g)
-
--- ---- put_entry
-module _ (path : List ℕ) (n k : ℕ) where
-  pub entry_short : (len : ℕ) → length path / 4 < len → path ≡ entry_put path n k len
-  unfolding entry_put
-  entry_short len h = sym (rw (lt-leb len (length path / 4) h, entry_put))
-
-  pub entry_put_lem : (len : ℕ) (path' : List ℕ) → len ≤ length path / 4 → path' ≡ put_word path n k → path' ≡ entry_put path n k len
-  unfolding entry_put
-  entry_put_lem len path' h e = e ∙ sym (rw (le-leb len (length path / 4) h, entry_put))

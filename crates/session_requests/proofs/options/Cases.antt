@@ -20,12 +20,15 @@ use Rattle.spec_session.specs.origin_calls.Several.{front, go_on, list_from_caus
 use Rattle.session_requests.specs.declared.options.Options.{Options}
 use Rattle.session_requests.specs.declared.options.Options.TheVariants.{Plain, Within, Listed}
 use Rattle.session_requests.specs.options.Options.{is_listed}
-use Rattle.session_requests.specs.declared.options.Ended.{Ended}
+use Rattle.session_requests.specs.options.Counted.{Ended}
 use Rattle.session_requests.specs.options.Requests.{Stage, Ready, onward_with, requested_from_with, CallWith, ended_of, counted_of, explained_of, settled_with, type_call_with, types_call_with}
 use Rattle.session_requests.specs.options.Lists.{front_with, go_on_with, list_from_with, list_call_with}
 use Rattle.session_requests.proofs.request.Laws.{with_lists, with_none, with_ceiling, no_words}
 use Rattle.session_requests.proofs.requests.Laws.{made}
 use Rattle.c_dumper_emit.proofs.dump_type.Kept.{none_before}
+use Rattle.c_dumper_dependency_order.specs.declared.leaders.Lead.{Lead}
+use Rattle.c_dumper_dependency_order.specs.leaders.Leads.{lead_words}
+use Rattle.c_dumper_dependency_order.proofs.leaders.Laws.{words_length}
 
 -- ---- what they come to, without what there is none of
 abbrev stage_only : Reach → List Entry → ℕ → Stage
@@ -220,7 +223,7 @@ module _ (s : Session) (section w t : List ℕ) (q : Call) where
   only_list ids l e = e ∙ list_plain section ids 0 s w t l 0
 
 -- ---- the nine calls, each as the one call at its option
-pub same_call : (r : Ended) (w' t' l' : List ℕ) (d : CallWith) → ended_of r w' t' l' ≡ d → call_of r.turn.session (answer_is r.turn.answer) w' t' ≡ d.call
+pub same_call : (r : Ended) (w' t' l' : List ℕ) (d : CallWith) → ended_of r w' t' l' ≡ d → call_of r.of.session (answer_is r.of.answer) w' t' ≡ d.call
 unfolding ended_of
 same_call r w' t' l' d e = ap (λ (x : CallWith). x.call) e
 
@@ -233,13 +236,13 @@ module _ (s : Session) (section w t : List ℕ) (r : Ended) (w' t' l' : List ℕ
   unfolding ended_of explained_of
   same_causes d e = ap to_causes e
 
-  pub call_type : (id : ℕ) (l : List ℕ) → ended_of r w' t' l' ≡ type_call_with Plain s section w t id l 0 → call_of r.turn.session (answer_is r.turn.answer) w' t' ≡ type_call s section w t id
+  pub call_type : (id : ℕ) (l : List ℕ) → ended_of r w' t' l' ≡ type_call_with Plain s section w t id l 0 → call_of r.of.session (answer_is r.of.answer) w' t' ≡ type_call s section w t id
   call_type id l e = only_type s section w t _ id l (same_call r w' t' l' _ e)
 
-  pub call_types : (l : List ℕ) → ended_of r w' t' l' ≡ types_call_with Plain s section w t l → call_of r.turn.session (answer_is r.turn.answer) w' t' ≡ types_call s section w t
+  pub call_types : (l : List ℕ) → ended_of r w' t' l' ≡ types_call_with Plain s section w t l → call_of r.of.session (answer_is r.of.answer) w' t' ≡ types_call s section w t
   call_types l e = only_types s section w t _ l (same_call r w' t' l' _ e)
 
-  pub call_list : (ids l : List ℕ) → ended_of r w' t' l' ≡ list_call_with Plain s section w t ids l → call_of r.turn.session (answer_is r.turn.answer) w' t' ≡ list_call s section w t ids
+  pub call_list : (ids l : List ℕ) → ended_of r w' t' l' ≡ list_call_with Plain s section w t ids l → call_of r.of.session (answer_is r.of.answer) w' t' ≡ list_call s section w t ids
   call_list ids l e = only_list s section w t _ ids l (same_call r w' t' l' _ e)
 
   pub within_type : (c id : ℕ) (l : List ℕ) → ended_of r w' t' l' ≡ type_call_with (Within c) s section w t id l 0 → counted_of r w' t' ≡ type_call_within c s section w t id 0
@@ -262,11 +265,11 @@ module _ (s : Session) (section w t : List ℕ) (r : Ended) (w' t' l' : List ℕ
   unfolding list_call_with list_causes_call
   causes_list ids l e = same_causes _ e ∙ list_listing section ids 0 s w t l 0
 
--- ---- what the three forms ask of the words for the leaders
-pub unlisted_asks : (o : Options) → (o ≡ Plain) ⊎ ((c : ℕ) × (o ≡ Within c)) → Ready o 1 (replicate 0 0)
-unlisted_asks o e =
+-- ---- what the three forms ask of the leaders
+pub unlisted_asks : (o : Options) (leads : List ℕ) → (o ≡ Plain) ⊎ ((c : ℕ) × (o ≡ Within c)) → Ready o 1 leads
+unlisted_asks o leads e =
     let f : is_listed o ≡ false = ⊎_elim (λ x. ap is_listed x) (λ x. ap is_listed x.1) e in
-    no_words o 1 (replicate 0 0) f
+    no_words o 1 leads f
 
-pub listed_asks : Ready Listed 1 (replicate 262145 0)
-listed_asks _ = (length-replicate {A = ℕ} 262145 0, none_before _ made)
+pub listed_asks : Ready Listed 1 (lead_words (replicate 262145 (record { turn = 0; lead = 0 })))
+listed_asks _ = (words_length _ ∙ length-replicate {A = Lead} 262145 (record { turn = 0; lead = 0 }), none_before _ made)

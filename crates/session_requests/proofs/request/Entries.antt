@@ -4,7 +4,7 @@ use mathlib.Core.Path.{◌≡◌, refl, ap, ◌∙◌, sym, subst}
 use mathlib.Core.List.{List, [], ◌∷◌, ◌++◌, append_assoc, append-nil}
 use native.Mathlib.Omega.{arith}
 use lib.ListN.{length, get_or, take, drop, replicate, length-drop, get_or-append}
-use lib.Seq.{take-suc, length-take-le, take_all, take-append-add, get_or-append-add, get_or-take}
+use lib.Seq.{take-suc, length-take-le, take_all, take-append-add, take-append_seam, get_or-append-add, get_or-take}
 use borrow.Rule.Slice.PartMut.{mid_of, post_of, put_mid, mid_len, same_len_mid}
 use Rattle.spec_bytes.specs.words.Words.{get_word}
 use Rattle.spec_bytes.proofs.words.Laws.{get_in}
@@ -92,7 +92,7 @@ module _ (l u : List ℕ) (k : ℕ) (h : k * 12 ≤ length l) (same : length u �
   abbrev l' : List ℕ
   l' = put_mid (k * 12) n l u
 
-  whole_length : length l' ≡ length l
+  pub whole_length : length l' ≡ length l
   whole_length = same_len_mid (k * 12) n l u same
 
   long : length u ≡ length l - k * 12
@@ -100,6 +100,10 @@ module _ (l u : List ℕ) (k : ℕ) (h : k * 12 ≤ length l) (same : length u �
 
   head_length : length (take (k * 12) l) ≡ k * 12
   head_length = length-take-le (k * 12) l h
+
+  -- what stands before them stays
+  pub head_stays : take (k * 12) l' ≡ take (k * 12) l
+  head_stays = ap (λ (j : ℕ). take j l') (sym head_length) ∙ take-append_seam (take (k * 12) l) (u ++ post_of (k * 12) n l)
 
   byte_before : (i : ℕ) → i < k * 12 → get_or l' i 0 ≡ get_or l i 0
   byte_before i q = get_or-append (take (k * 12) l) (u ++ post_of (k * 12) n l) 0 i (omega (arith, head_length)) ∙ get_or-take (k * 12) l i 0 q
@@ -159,7 +163,7 @@ module _ (l : List ℕ) (c : ℕ) (h : c * 12 ≤ length l) where
       none [] e = refl
       none (x ∷ xs) e = absurd (omega arith)
 
-  put_is : (u : List ℕ) → put_mid (c * 12) rest l u ≡ take (c * 12) l ++ u
+  pub put_is : (u : List ℕ) → put_mid (c * 12) rest l u ≡ take (c * 12) l ++ u
   put_is u = ap (λ (xs : List ℕ). take (c * 12) l ++ (u ++ xs)) post_none ∙ ap (λ (xs : List ℕ). take (c * 12) l ++ xs) (append-nil u)
 
   module _ (u : List ℕ) (d : ℕ) where

@@ -101,6 +101,6 @@ module _ (b : TypeTable) (few : b.types ≤ 262145) (s w t l : List ℕ) (len id
     unfolding requested_noted
     request_is = ap (λ (z : ℕ). came_to_noted len v t [] (dumped_noted (work_machine b X) (table_of X) (up_to (entries_in l)) (shows_in X) (record { work = w; text = take (z - len) (drop len t); at = 0; len = 0 }) [] id)) el
 
-    pub one_told : (noted_of (record { reached = r; count = count_of d; made = made }) w' t' l' ≡ requested_noted (up_to (entries_in l)) b s id [] len v w t) × (count_of d ≤ entries_in l)
+    pub one_told : (noted_of (record { of = r; count = count_of d; made = made }) w' t' l' ≡ requested_noted (up_to (entries_in l)) b s id [] len v w t) × (count_of d ≤ entries_in l)
     unfolding noted_of came_to_noted
     one_told = ((λ i. record { reach = (er ∙ ap (came_to len v t) out_is) i; entries = entries_is i }) ∙ request_is, count_fits)

@@ -34,7 +34,7 @@ use Rattle.c_dumper_emit.proofs.dump_type.Requests.{plain_is, plain_made, fits_i
 use Rattle.session_requests.specs.declared.options.Options.{Options}
 use Rattle.session_requests.specs.declared.options.Options.TheVariants as option
 use Rattle.session_requests.specs.options.Options.{is_listed, is_counted, most_calls, ceiling_of}
-use Rattle.session_requests.specs.declared.options.Progress.{Progress}
+use Rattle.session_requests.specs.options.Counted.{Progress}
 use Rattle.session_requests.specs.options.Requests.{stage_of, within_of, Under, Ready, requested_with}
 use Rattle.session_requests.proofs.request.Laws.{single, one_listed, one_within, one_plain, no_words, under_same, none_count}
 use Rattle.session_requests.proofs.request.Pens.{place_of, count_of}
@@ -81,7 +81,7 @@ module _ (o : Options) (b : TypeTable) (few : b.types ≤ 262145) (s w t l : Lis
 
   -- whose reach is r, and text t'
   record Told (r : Reached) : Type 0 where
-    stage : stage_of (record { reached = r; count = count_of d; made = m }) w' text' l' ≡ requested_with o (up_to (entries_in l)) b s id [] len v w t k
+    stage : stage_of (record { of = r; count = count_of d; made = m }) w' text' l' ≡ requested_with o (up_to (entries_in l)) b s id [] len v w t k
     counts : count_of d ≤ entries_in l
     under_still : Under o m
 
@@ -99,7 +99,7 @@ module _ (o : Options) (b : TypeTable) (few : b.types ≤ 262145) (s w t l : Lis
         told = λ r er.
             let a = listed.one_told b few s w t l len id to small d u w' l' turn k q q' (ready ex).0 (ready ex).1 (e_at true unbounded ex f) el v r text' er m in
             record {
-              stage = one_listed o (up_to (entries_in l)) b s id len v w t k w' text' l' ex (record { reached = r; count = count_of d; made = m }) a.0 n;
+              stage = one_listed o (up_to (entries_in l)) b s id len v w t k w' text' l' ex (record { of = r; count = count_of d; made = m }) a.0 n;
               counts = a.1;
               under_still = under_same o k m under n;
             };
@@ -117,7 +117,7 @@ module _ (o : Options) (b : TypeTable) (few : b.types ≤ 262145) (s w t l : Lis
         let h = plain_is b (btf_of b s w) (sheet 0 0 mid w) id k in
         record {
           told = λ r er. record {
-            stage = (λ i. stage_of (record { reached = r; count = z i; made = n i }) w' text' l')
+            stage = (λ i. stage_of (record { of = r; count = z i; made = n i }) w' text' l')
                 ∙ one_plain o (up_to (entries_in l)) b s id len v w t k w' text' l' ex ey r (bare.as_plain b s w t l len id to d u w' l' unbounded turn k q q' g h el v r text' er);
             counts = none_count (count_of d) (entries_in l) z;
             under_still = under_same o k m under n;
@@ -140,7 +140,7 @@ module _ (o : Options) (b : TypeTable) (few : b.types ≤ 262145) (s w t l : Lis
           let g = fits_is b s (sheet 0 0 mid w) refl id c k h in
           record {
             told = λ r er. record {
-              stage = one_within o (up_to (entries_in l)) b s id len v w t k w' text' l' ex ey (record { reached = r; count = count_of d; made = m })
+              stage = one_within o (up_to (entries_in l)) b s id len v w t k w' text' l' ex ey (record { of = r; count = count_of d; made = m })
                   ((λ i. record { reach = bare.as_plain b s w t l len id to d u w' l' (most c) turn k q q' (e_at false (most c) ex f) g el v r text' er i; made = n i }) ∙ sym (request_fits c b s id len v w t k h)) none_noted;
               counts = none_count (count_of d) (entries_in l) none_noted;
               under_still = λ _. omega arith;
@@ -156,7 +156,7 @@ module _ (o : Options) (b : TypeTable) (few : b.types ≤ 262145) (s w t l : Lis
           let g = over_is b s (sheet 0 0 mid w) refl id c k (under ey) h in
           record {
             told = λ r er. record {
-              stage = one_within o (up_to (entries_in l)) b s id len v w t k w' text' l' ex ey (record { reached = r; count = count_of d; made = m })
+              stage = one_within o (up_to (entries_in l)) b s id len v w t k w' text' l' ex ey (record { of = r; count = count_of d; made = m })
                   ((λ i. record { reach = bare.as_over b s w t l len id to d u w' l' (most c) turn k q q' (e_at false (most c) ex f) g v r text' er i; made = n i }) ∙ sym (request_over c b s id len v w t k h)) none_noted;
               counts = none_count (count_of d) (entries_in l) none_noted;
               under_still = λ _. omega arith;
@@ -175,28 +175,28 @@ module _ (o : Options) (b : TypeTable) (few : b.types ≤ 262145) (s w t l : Lis
 
   abbrev Result : Progress → Type 0
   Result p =
-      (stage_of p w' text' l' ≡ requested_with o (up_to (entries_in l)) b s id [] len v w t k) × (p.count ≤ entries_in l) × (p.reached.len ≤ length text') × Under o p.made
-      × (p.reached.stop ≡ None → (p.reached.visits ≡ visits_in w') × Ready o (turn + 1) q')
+      (stage_of p w' text' l' ≡ requested_with o (up_to (entries_in l)) b s id [] len v w t k) × (p.count ≤ entries_in l) × (p.of.len ≤ length text') × Under o p.made
+      × (p.of.stop ≡ None → (p.of.visits ≡ visits_in w') × Ready o (turn + 1) q')
 
   module _ (r : Reached) where
-    pub one_refused : (x : Refusal) → d ≡ Err x → r ≡ arrived_in len v (Err x) → Result (record { reached = r; count = 0; made = m })
+    pub one_refused : (x : Refusal) → d ≡ Err x → r ≡ arrived_in len v (Err x) → Result (record { of = r; count = 0; made = m })
     one_refused x f er =
         let e : r ≡ arrived_at len v (Err x) = er ∙ arrived_refused len v x in
         let a = way.told r (end_refused t u w' len to below ends same r x v e ∙ ap (λ (z : Penned). came_to len v t (emit_out 0 (place_of z) u w')) (sym f)) in
         let z : 0 ≡ count_of d = ap count_of (sym f) in
         let y : r.stop ≡ Some x = ap (λ (z : Reached). z.stop) (e ∙ arrived_past len v x) in
-        ((λ i. stage_of (record { reached = r; count = z i; made = m }) w' text' l') ∙ a.stage, zero-le, refused_fits t u w' len to below ends same r x v e, a.under_still, λ h. absurd (some_none x (sym y ∙ h)))
+        ((λ i. stage_of (record { of = r; count = z i; made = m }) w' text' l') ∙ a.stage, zero-le, refused_fits t u w' len to below ends same r x v e, a.under_still, λ h. absurd (some_none x (sym y ∙ h)))
       where
         some_none : (x : Refusal) → Some x ≡ None → ⊥
         some_none x h = cc
 
-    pub one_accepted : (p : Pen) → d ≡ Ok p → (x : ℕ) → x ≡ visits_in w' → r ≡ arrived_in len x (Ok p.at) → Result (record { reached = r; count = p.count; made = m })
+    pub one_accepted : (p : Pen) → d ≡ Ok p → (x : ℕ) → x ≡ visits_in w' → r ≡ arrived_in len x (Ok p.at) → Result (record { of = r; count = p.count; made = m })
     one_accepted p f x ex er =
         let i : p.at ≤ to - len = omega (arith, way.inside p f, mid_len len to t ends) in
         let e : r ≡ arrived_at len x (Ok p.at) = er ∙ arrived_accepted len x p.at (omega (arith, short, room_fits _ _ _ el within)) in
         let a = way.told r (end_accepted t u w' len to below ends same r p.at x e v ∙ ap (λ (z : Penned). came_to len v t (emit_out 0 (place_of z) u w')) (sym f)) in
         let z : p.count ≡ count_of d = ap count_of (sym f) in (
-          (λ i. stage_of (record { reached = r; count = z i; made = m }) w' text' l') ∙ a.stage,
+          (λ i. stage_of (record { of = r; count = z i; made = m }) w' text' l') ∙ a.stage,
           subst (λ (y : ℕ). y ≤ entries_in l) (sym z) a.counts,
           accepted_fits t u w' len to below ends same r p.at x e i,
           a.under_still,

@@ -25,7 +25,7 @@ use Rattle.spec_c_dumper.specs.rules.Request.{dumped}
 use Rattle.spec_type_table.specs.declared.types.TypeTable.{TypeTable}
 use Rattle.spec_type_table.specs.Table.{btf_of}
 use Rattle.spec_session.specs.emission.Sheet.{Sheet, work_machine}
-use Rattle.spec_session.specs.session.Answers.{Refused, answer_is, number_of, answer_of, stays_open}
+use Rattle.spec_session.specs.session.Answers.{Refused, answer_is, number_of, answer_of}
 use Rattle.spec_session.specs.declared.session.Session.{Session}
 use Rattle.spec_session.specs.declared.session.Turn.{Turn}
 use Rattle.spec_session.specs.session.Turns.{Call, call_of, refused_turn, is_current, Reach, reached, refused_by, reach_of, with_text, then_zeros, settled, table_for, visits_in}
@@ -35,7 +35,7 @@ use Rattle.spec_session.specs.calls.Calls.{came_to, lent_to, requested}
 use Rattle.spec_session.specs.calls.Lists.{ids_in, count_in, tailed, list_end}
 use Rattle.spec_session.proofs.calls.Claims.{number_is, request_sane, type_settles, zeros_length, zeros_head}
 use Rattle.spec_session.proofs.calls.Singles.{settled_with_lem}
-use Rattle.spec_session.proofs.calls.Lists.{ids_from, ids_all, ids_none, ids_some, ids_cons, tail_length, tail_head, tail_zeroed, current, called, open_now, sane_listed}
+use Rattle.spec_session.proofs.calls.Lists.{ids_from, ids_all, ids_none, ids_some, ids_cons, tail_length, tail_head, current, called, open_now, sane_listed}
 use Rattle.spec_c_dumper.specs.origins.Causes.{Noted as NotedOf, up_to, shows_in, filled, entries_in}
 use Rattle.spec_c_dumper.specs.origins.Claims.{forget, Lined}
 use Rattle.spec_session.specs.origin_calls.Bytes.{dumped_noted, came_to_noted, requested_noted}
@@ -44,12 +44,13 @@ use Rattle.spec_session.specs.metered.Metered.{calls_in}
 use Rattle.c_dumper_emit.specs.entries.Noted.{entries_of}
 use Rattle.c_dumper_emit.proofs.entries.Laws.{entries_length}
 use Rattle.session_requests.proofs.request.Entries.{filled_is, byte_after, take_both}
+use Rattle.session_requests.proofs.request.Laws.{part_same, part_put, part_count, part_few, part_stage}
 use Rattle.session_requests.specs.declared.options.Options.{Options}
 use Rattle.session_requests.specs.declared.options.Options.TheVariants as option
 use Rattle.session_requests.specs.options.Options.{is_listed, is_counted, most_calls}
-use Rattle.session_requests.specs.declared.options.Progress.{Progress}
-use Rattle.session_requests.specs.declared.options.Tallied.{Tallied}
-use Rattle.session_requests.specs.declared.options.Ended.{Ended}
+use Rattle.session_requests.specs.options.Counted.{Progress}
+use Rattle.session_requests.specs.options.Counted.{Tallied}
+use Rattle.session_requests.specs.options.Counted.{Ended}
 use Rattle.session_requests.specs.options.Requests.{Stage, stage_of, fits_under, made_under, requested_listed, requested_under, requested_with, CallWith, ended_of, settled_with, as_it_was, type_call_with}
 use Rattle.session_requests.specs.options.Lists.{front_with, go_on_with, list_from_with, list_call_with, cleared_if, tally_of, unknown_after, list_after, end_with}
 
@@ -247,7 +248,7 @@ module _ (o : Options) (s : Session) (section : List ℕ) (es : s.section_len �
       none_more : c ≡ c + 0
       none_more = omega arith
 
-      pub list_done : n ≤ k → end_with s (record { tally = record { len = len; stop = None; accepted = k; visits = v }; count = c; made = m }) w t l ≡ whole
+      pub list_done : n ≤ k → end_with s (record { of = record { len = len; stop = None; accepted = k; visits = v }; count = c; made = m }) w t l ≡ whole
       unfolding end_with list_end list_after ids_from list_from_with
       list_done i =
           let z : n - k ≡ 0 = omega arith in
@@ -265,7 +266,7 @@ module _ (o : Options) (s : Session) (section : List ℕ) (es : s.section_len �
             ∙ ap (λ (x : List ℕ). front_with c (take (c * 12) l) (list_from_with o k N section w (tailed k len t) behind_them x m)) (ids_cons ids k n i)
             ∙ ap (λ (x : ℕ). front_with c (take (c * 12) l) (go_on_with k (type_call_with o N section w (tailed k len t) x behind_them m) later)) (sym ei)
 
-        pub list_past : s.types ≤ id → end_with s (record { tally = record { len = len; stop = Some NoSuchId; accepted = k; visits = v }; count = c; made = m }) w t l ≡ whole
+        pub list_past : s.types ≤ id → end_with s (record { of = record { len = len; stop = Some NoSuchId; accepted = k; visits = v }; count = c; made = m }) w t l ≡ whole
         unfolding end_with list_end list_after number_of call_of
         list_past p =
             (λ j. record { call = call_of N (answer_of 10 k) w (tailed k len t); count = none_more j; list = list_whole j; made = m })
@@ -273,9 +274,34 @@ module _ (o : Options) (s : Session) (section : List ℕ) (es : s.section_len �
             ∙ ap (λ (d : CallWith). front_with c (take (c * 12) l) (go_on_with k d later)) (past k len v w t behind_them behind_them ew h refl clean id m p)
             ∙ ap (front_with c (take (c * 12) l)) (stops_at k 10 (as_it_was (call_of N (Refused 10 len) w (tailed k len t)) behind_them m) later refl (λ z. absurd (omega arith))))
 
-        module _ (p : id < s.types) (d : Progress) (w' t' u : List ℕ) (same : length u ≡ length (mid_of (c * 12) (length l - c * 12) l))
-            (er : stage_of d w' t' u ≡ requested_with o (up_to (entries_in (mid_of (c * 12) (length l - c * 12) l))) b section id [] len v w t m) (few : d.count ≤ entries_in (mid_of (c * 12) (length l - c * 12) l))
-            (whole_bytes : (j : ℕ) → get_or (put_mid (c * 12) (length l - c * 12) l u) j 0 < 256) where
+        module _ (p : id < s.types) (r : Progress) (w' t' list' : List ℕ) (ll : length list' ≡ length l) (stays : take (c * 12) list' ≡ take (c * 12) l)
+            (all : stage_of r w' t' list' ≡ requested_with o (up_to (entries_in l)) b section id (entries_of c l) len v w t m) (small : r.count ≤ entries_in list')
+            (all_bytes : (j : ℕ) → get_or list' j 0 < 256) where
+          -- on what follows the entries
+          abbrev d : Progress
+          d = record { of = r.of; count = r.count - c; made = r.made }
+
+          abbrev u : List ℕ
+          u = drop (c * 12) list'
+
+          same : length u ≡ length (mid_of (c * 12) (length l - c * 12) l)
+          same = part_same o b section w t l len v c id m hl r w' t' list' ll stays all small
+
+          er : stage_of d w' t' u ≡ requested_with o (up_to (entries_in (mid_of (c * 12) (length l - c * 12) l))) b section id [] len v w t m
+          er = part_stage o b section w t l len v c id m hl r w' t' list' ll stays all small
+
+          few : d.count ≤ entries_in (mid_of (c * 12) (length l - c * 12) l)
+          few = part_few o b section w t l len v c id m hl r w' t' list' ll stays all small
+
+          put_all : put_mid (c * 12) (length l - c * 12) l u ≡ list'
+          put_all = part_put o b section w t l len v c id m hl r w' t' list' ll stays all small
+
+          count_all : c + d.count ≡ r.count
+          count_all = part_count o b section w t l len v c id m hl r w' t' list' ll stays all small
+
+          whole_bytes : (j : ℕ) → get_or (put_mid (c * 12) (length l - c * 12) l u) j 0 < 256
+          whole_bytes j = subst (λ (x : List ℕ). get_or x j 0 < 256) (sym put_all) (all_bytes j)
+
           bytes : (j : ℕ) → get_or u j 0 < 256
           bytes = part_bytes l u c hl same whole_bytes
 
@@ -288,11 +314,8 @@ module _ (o : Options) (s : Session) (section : List ℕ) (es : s.section_len �
           mid_long : length mid ≡ length l - c * 12
           mid_long = mid_len (c * 12) (length l) l (omega arith)
 
-          pub whole_long : length l' ≡ length l
+          whole_long : length l' ≡ length l
           whole_long = same_len_mid (c * 12) (length l - c * 12) l u same
-
-          pub more_room : c + d.count ≤ entries_in l'
-          more_room = omega (arith, whole_long, mid_long, few)
 
           behind_long : length behind_them ≡ length mid
           behind_long = length-drop (c * 12) (tailed k (c * 12) l) ∙ omega (arith, tail_length k (c * 12) l room, mid_long)
@@ -306,7 +329,7 @@ module _ (o : Options) (s : Session) (section : List ℕ) (es : s.section_len �
           abbrev came : Reach → CallWith
           came q = record { call = settled s (length w) (length t) q; count = d.count; list = zeroed; made = d.made }
 
-          settles : (q : Reach) → reach_of d.reached w' t' ≡ q → settled_with s (length w) (length t) mid (stage_of d w' t' u) ≡ came q
+          settles : (q : Reach) → reach_of d.of w' t' ≡ q → settled_with s (length w) (length t) mid (stage_of d w' t' u) ≡ came q
           unfolding settled_with stage_of
           settles q eq = λ j. record {
             call = settled s (length w) (length t) (eq j);
@@ -318,7 +341,7 @@ module _ (o : Options) (s : Session) (section : List ℕ) (es : s.section_len �
           reach_is : requested_with o (up_to (entries_in mid)) (table_for s section) section id [] len v w t m ≡ stage_of d w' t' u
           reach_is = sym (er ∙ ap (λ (x : TypeTable). requested_with o (up_to (entries_in mid)) x section id [] len v w t m) eb)
 
-          onward : (q : Reach) → reach_of d.reached w' t' ≡ q → whole ≡ front_with c (take (c * 12) l) (go_on_with k (came q) later)
+          onward : (q : Reach) → reach_of d.of w' t' ≡ q → whole ≡ front_with c (take (c * 12) l) (go_on_with k (came q) later)
           onward q eq =
               next
               ∙ ap (λ (x : CallWith). front_with c (take (c * 12) l) (go_on_with k x later))
@@ -351,42 +374,48 @@ module _ (o : Options) (s : Session) (section : List ℕ) (es : s.section_len �
           unfolding tailed
           tailed_more = ap (λ (x : ℕ). tailed x ((c + d.count) * 12) l') (add-one k)
 
-          pub list_more : length t' ≡ length t → (fit : d.reached.len ≤ length t') → d.reached.stop ≡ None → (t'' : List ℕ) → t'' ≡ cleared_if (is_listed o) d.reached.len t' → (x : ℕ) → x ≡ visits_in w'
-              → Rest (k + 1) d.reached.len x (c + d.count) d.made w' t'' l'
+          part_more : length t' ≡ length t → (fit : d.of.len ≤ length t') → d.of.stop ≡ None → (t'' : List ℕ) → t'' ≡ cleared_if (is_listed o) d.of.len t' → (x : ℕ) → x ≡ visits_in w'
+              → Rest (k + 1) d.of.len x (c + d.count) d.made w' t'' l'
           unfolding settled
-          list_more lt fit z t'' et x ex =
-              onward (reached d.reached.len w' t') (reach_accepted d.reached w' t' z)
-              ∙ ap (front_with c (take (c * 12) l)) (goes_on k (came (reached d.reached.len w' t')) later (number_is 0 d.reached.len))
-              ∙ fronts (list_from_with o (suc k) (with_text s true d.reached.len (visits_in w')) section w' (then_zeros (length t) d.reached.len t') (drop (d.count * 12) zeroed) (ids_from ids (k + 1) (n - (k + 1))) d.made)
-              ∙ (λ j. front_with (c + d.count) (take ((c + d.count) * 12) l') (list_from_with o (sym (add-one k) j) (with_text s true d.reached.len (sym ex j)) section w'
-              ((ap (λ (y : ℕ). then_zeros y d.reached.len t') (sym lt) ∙ sym (ap (λ (y : ℕ). tailed y d.reached.len t'') (add-one k) ∙ ap (tailed (suc k) d.reached.len) et ∙ cleared_tail d.reached.len t' fit (is_listed o) k)) j)
+          part_more lt fit z t'' et x ex =
+              onward (reached d.of.len w' t') (reach_accepted d.of w' t' z)
+              ∙ ap (front_with c (take (c * 12) l)) (goes_on k (came (reached d.of.len w' t')) later (number_is 0 d.of.len))
+              ∙ fronts (list_from_with o (suc k) (with_text s true d.of.len (visits_in w')) section w' (then_zeros (length t) d.of.len t') (drop (d.count * 12) zeroed) (ids_from ids (k + 1) (n - (k + 1))) d.made)
+              ∙ (λ j. front_with (c + d.count) (take ((c + d.count) * 12) l') (list_from_with o (sym (add-one k) j) (with_text s true d.of.len (sym ex j)) section w'
+              ((ap (λ (y : ℕ). then_zeros y d.of.len t') (sym lt) ∙ sym (ap (λ (y : ℕ). tailed y d.of.len t'') (add-one k) ∙ ap (tailed (suc k) d.of.len) et ∙ cleared_tail d.of.len t' fit (is_listed o) k)) j)
               ((tails ∙ ap (drop ((c + d.count) * 12)) (sym tailed_more)) j) (ids_from ids (k + 1) (n - (k + 1))) d.made))
 
-          module _ (x : Refusal) (z : d.reached.stop ≡ Some x) where
+          pub list_more : length t' ≡ length t → (fit : r.of.len ≤ length t') → r.of.stop ≡ None → (t'' : List ℕ) → t'' ≡ cleared_if (is_listed o) r.of.len t' → (x : ℕ) → x ≡ visits_in w'
+              → Rest (k + 1) r.of.len x r.count r.made w' t'' list'
+          list_more lt fit z t'' et x ex =
+              part_more lt fit z t'' et x ex ∙ (λ j. front_with (count_all j) (take (count_all j * 12) (put_all j)) (list_from_with o (k + 1) (with_text s true r.of.len x) section w' (tailed (k + 1) r.of.len t'')
+              (drop (count_all j * 12) (tailed (k + 1) (count_all j * 12) (put_all j))) (ids_from ids (k + 1) (n - (k + 1))) r.made))
+
+          module _ (x : Refusal) (z : d.of.stop ≡ Some x) where
             large : 12 ≤ refusal_number x
             unfolding stage_of
-            large = with_large (entries_in mid) (table_for s section) section id len v w t h o m (refusal_number x) d.reached.len d.reached.visits (take d.reached.len t')
-                (ap (λ (y : Stage). y.reach) reach_is ∙ reach_refused d.reached w' t' x z)
+            large = with_large (entries_in mid) (table_for s section) section id len v w t h o m (refusal_number x) d.of.len d.of.visits (take d.of.len t')
+                (ap (λ (y : Stage). y.reach) reach_is ∙ reach_refused d.of w' t' x z)
 
             abbrev ended : Call
-            ended = call_of (with_text s false d.reached.len d.reached.visits) (answer_of (refusal_number x) k) (replicate (length w') 0) (then_zeros (length t') d.reached.len t')
+            ended = call_of (with_text s false d.of.len d.of.visits) (answer_of (refusal_number x) k) (replicate (length w') 0) (then_zeros (length t') d.of.len t')
 
             -- what the code leaves
-            closed : end_with s (tally_of (record { reached = d.reached; count = c + d.count; made = d.made }) k) w' t' l' ≡ record { call = ended; count = c + d.count; list = then_zeros (length l') ((c + d.count) * 12) l'; made = d.made }
+            closed : end_with s (tally_of (record { of = d.of; count = c + d.count; made = d.made }) k) w' t' l' ≡ record { call = ended; count = c + d.count; list = then_zeros (length l') ((c + d.count) * 12) l'; made = d.made }
             unfolding end_with list_end list_after call_of
             closed =
-                (λ j. end_with s (record { tally = record { len = d.reached.len; stop = z j; accepted = k; visits = d.reached.visits }; count = c + d.count; made = d.made }) w' t' l')
+                (λ j. end_with s (record { of = record { len = d.of.len; stop = z j; accepted = k; visits = d.of.visits }; count = c + d.count; made = d.made }) w' t' l')
                 ∙ rw (lt-leb (refusal_number x) 10 (omega (arith, large)), list_end, list_after) refl
 
-            pub list_stop : length w' ≡ length w → length t' ≡ length t → end_with s (tally_of (record { reached = d.reached; count = c + d.count; made = d.made }) k) w' t' l' ≡ whole
+            part_stop : length w' ≡ length w → length t' ≡ length t → end_with s (tally_of (record { of = d.of; count = c + d.count; made = d.made }) k) w' t' l' ≡ whole
             unfolding settled call_of
-            list_stop lw lt =
+            part_stop lw lt =
                 closed
-                ∙ sym (onward (refused_by (refusal_number x) d.reached.len d.reached.visits (take d.reached.len t')) (reach_refused d.reached w' t' x z)
-                ∙ ap (front_with c (take (c * 12) l)) (stops_at k (refusal_number x) (came (refused_by (refusal_number x) d.reached.len d.reached.visits (take d.reached.len t'))) later (number_is (refusal_number x) d.reached.len) (some_number x))
+                ∙ sym (onward (refused_by (refusal_number x) d.of.len d.of.visits (take d.of.len t')) (reach_refused d.of w' t' x z)
+                ∙ ap (front_with c (take (c * 12) l)) (stops_at k (refusal_number x) (came (refused_by (refusal_number x) d.of.len d.of.visits (take d.of.len t'))) later (number_is (refusal_number x) d.of.len) (some_number x))
                 ∙ (λ j. record {
-                  call = (sym (λ i. call_of (with_text s false d.reached.len d.reached.visits) (answer_of (refusal_number x) k) (replicate (lw i) 0) (then_zeros (lt i) d.reached.len (take d.reached.len t')))
-                      ∙ ap (call_of (with_text s false d.reached.len d.reached.visits) (answer_of (refusal_number x) k) (replicate (length w') 0)) (zeros_twice (length t') d.reached.len t')) j;
+                  call = (sym (λ i. call_of (with_text s false d.of.len d.of.visits) (answer_of (refusal_number x) k) (replicate (lw i) 0) (then_zeros (lt i) d.of.len (take d.of.len t')))
+                      ∙ ap (call_of (with_text s false d.of.len d.of.visits) (answer_of (refusal_number x) k) (replicate (length w') 0)) (zeros_twice (length t') d.of.len t')) j;
                   count = c + d.count;
                   list = ending j;
                   made = d.made;
@@ -399,6 +428,9 @@ module _ (o : Options) (s : Session) (section : List ℕ) (es : s.section_len �
                     ∙ (λ j. heads j ++ tails j)
                     ∙ ap (λ (y : List ℕ). y ++ drop ((c + d.count) * 12) (then_zeros (length l') ((c + d.count) * 12) l')) (sym (zeros_head ((c + d.count) * 12) (length l') l' both_room both_room ((c + d.count) * 12) (le_refl ((c + d.count) * 12))))
                     ∙ take-append-drop ((c + d.count) * 12) (then_zeros (length l') ((c + d.count) * 12) l')
+
+            pub list_stop : length w' ≡ length w → length t' ≡ length t → end_with s (tally_of r k) w' t' list' ≡ whole
+            list_stop lw lt = (λ j. end_with s (tally_of (record { of = r.of; count = sym count_all j; made = r.made }) k) w' t' (sym put_all j)) ∙ part_stop lw lt
 
   list_start : (w t l : List ℕ) → is_current s (length section) (length w) (length t) ≡ true → (ids : List ℕ) (n : ℕ) → n ≡ count_in ids → (b : TypeTable) (eb : b ≡ table_for s section)
       → Rest b eb ids n (list_call_with o s section w t (ids_in ids) l) 0 s.text_len s.visits 0 0 w t l
@@ -416,10 +448,10 @@ module _ (o : Options) (s : Session) (section : List ℕ) (es : s.section_len �
       zeroed m = omega arith
 
   pub list_begin : (w t l : List ℕ) → is_current s (length section) (length w) (length t) ≡ true → (ids : List ℕ) (n : ℕ) → n ≡ count_in ids → (b : TypeTable) (eb : b ≡ table_for s section)
-      → (r : Progress) → r ≡ record { reached = record { len = s.text_len; stop = None; visits = s.visits }; count = 0; made = 0 }
-      → Rest b eb ids n (list_call_with o s section w t (ids_in ids) l) 0 r.reached.len r.reached.visits r.count r.made w t l
+      → (r : Progress) → r ≡ record { of = record { len = s.text_len; stop = None; visits = s.visits }; count = 0; made = 0 }
+      → Rest b eb ids n (list_call_with o s section w t (ids_in ids) l) 0 r.of.len r.of.visits r.count r.made w t l
   list_begin w t l h ids n e b eb r er =
-      subst (λ (x : Progress). Rest b eb ids n (list_call_with o s section w t (ids_in ids) l) 0 x.reached.len x.reached.visits x.count x.made w t l) (sym er) (list_start w t l h ids n e b eb)
+      subst (λ (x : Progress). Rest b eb ids n (list_call_with o s section w t (ids_in ids) l) 0 x.of.len x.of.visits x.count x.made w t l) (sym er) (list_start w t l h ids n e b eb)
 
 module _ (r : Tallied) (s : Session) (w t l : List ℕ) (whole : CallWith) where
   pub tally_is : (p : Progress) (k : ℕ) → r ≡ tally_of p k → end_with s (tally_of p k) w t l ≡ whole → end_with s r w t l ≡ whole
@@ -428,39 +460,17 @@ module _ (r : Tallied) (s : Session) (w t l : List ℕ) (whole : CallWith) where
   pub tally_past : (p q : Progress) (k : ℕ) → r ≡ tally_of q k → q ≡ unknown_after p → end_with s (tally_of (unknown_after p) k) w t l ≡ whole → end_with s r w t l ≡ whole
   tally_past p q k e f g = ap (λ (x : Tallied). end_with s x w t l) (e ∙ ap (λ (x : Progress). tally_of x k) f) ∙ g
 
-  pub tally_done : (p : Progress) (n k : ℕ) → r ≡ tally_of p n → n ≡ k → p.reached.stop ≡ None
-      → end_with s (record { tally = record { len = p.reached.len; stop = None; accepted = k; visits = p.reached.visits }; count = p.count; made = p.made }) w t l ≡ whole → end_with s r w t l ≡ whole
+  pub tally_done : (p : Progress) (n k : ℕ) → r ≡ tally_of p n → n ≡ k → p.of.stop ≡ None
+      → end_with s (record { of = record { len = p.of.len; stop = None; accepted = k; visits = p.of.visits }; count = p.count; made = p.made }) w t l ≡ whole → end_with s r w t l ≡ whole
   tally_done p n k e nk z f =
-      ap (λ (x : Tallied). end_with s x w t l) (e ∙ (λ i. record { tally = record { len = p.reached.len; stop = z i; accepted = nk i; visits = p.reached.visits }; count = p.count; made = p.made })) ∙ f
+      ap (λ (x : Tallied). end_with s x w t l) (e ∙ (λ i. record { of = record { len = p.of.len; stop = z i; accepted = nk i; visits = p.of.visits }; count = p.count; made = p.made })) ∙ f
 
 pub tally_room : (r : Tallied) (p : Progress) (k n : ℕ) → r ≡ tally_of p k → p.count ≤ n → r.count ≤ n
 tally_room r p k n e h = subst (λ (x : ℕ). x ≤ n) (sym (ap (λ (x : Tallied). x.count) e)) h
 
-pub sum_room : (l : List ℕ) (c d : ℕ) → c ≤ entries_in l → d ≤ entries_in (mid_of (c * 12) (length l - c * 12) l) → c + d ≤ entries_in l
-sum_room l c d h k = omega (arith, mid_len (c * 12) (length l) l (omega arith))
-
--- ---- clear_after
-module _ (r : Tallied) (l : List ℕ) where
-  pub after_none : stays_open r.tally.stop ≡ true → r.tally.accepted ≡ 0 → l ≡ list_after r l
-  unfolding list_after tailed
-  after_none h z = sym (ap (λ (k : ℕ). tailed k (r.count * 12) l) z) ∙ sym (rw (h, list_after))
-
-  module _ (l' : List ℕ) (e : l' ≡ then_zeros (length l) (r.count * 12) l) where
-    pub after_some : (r.tally.accepted ≡ 0 → ⊥) → l' ≡ list_after r l
-    unfolding list_after
-    after_some z = go (stays_open r.tally.stop) refl
-      where
-        go : (q : Bool) → stays_open r.tally.stop ≡ q → l' ≡ list_after r l
-        go true h = tail_zeroed r.tally.accepted (r.count * 12) l l' z e ∙ sym (rw (h, list_after))
-        go false h = e ∙ sym (rw (h, list_after))
-
-    pub after_closed : stays_open r.tally.stop ≡ false → l' ≡ list_after r l
-    unfolding list_after
-    after_closed h = e ∙ sym (rw (h, list_after))
-
 -- ---- list_with
 module _ (o : Options) (s : Session) (section w t l ids : List ℕ) where
-  pub list_empty : length ids < 4 → ended_of (record { turn = record { session = s; answer = Ok 0 }; count = 0; made = 0 }) w t l ≡ list_call_with o s section w t (ids_in ids) l
+  pub list_empty : length ids < 4 → ended_of (record { of = record { session = s; answer = Ok 0 }; count = 0; made = 0 }) w t l ≡ list_call_with o s section w t (ids_in ids) l
   unfolding list_call_with list_from_with ended_of answer_of
   list_empty h = sym (ap (λ (x : List ℕ). list_from_with o 0 s section w t l x 0) (ids_none ids h))
 
@@ -468,7 +478,7 @@ module _ (o : Options) (s : Session) (section w t l ids : List ℕ) where
   unfolding type_call_with call_of number value answer_of
   not_current id e = rw (e, type_call_with) refl
 
-  pub list_11 : (q : Bool) → q ≡ is_current s (length section) (length w) (length t) → 4 ≤ length ids → not q ≡ true → (r : Ended) → r ≡ record { turn = refused_turn s SessionClosed 0; count = 0; made = 0 } → ended_of r w t l ≡ list_call_with o s section w t (ids_in ids) l
+  pub list_11 : (q : Bool) → q ≡ is_current s (length section) (length w) (length t) → 4 ≤ length ids → not q ≡ true → (r : Ended) → r ≡ record { of = refused_turn s SessionClosed 0; count = 0; made = 0 } → ended_of r w t l ≡ list_call_with o s section w t (ids_in ids) l
   unfolding list_call_with list_from_with ended_of number_of call_of answer_of
   list_11 q eq i h r er =
       ap (λ (x : Ended). ended_of x w t l) er
@@ -479,7 +489,7 @@ module _ (o : Options) (s : Session) (section w t l ids : List ℕ) where
       later : CallWith → CallWith
       later x = list_from_with o 1 x.call.session section x.call.work x.call.text (drop (x.count * 12) x.list) (ids_from ids 1 (count_in ids - 1)) x.made
 
-  pub list_ends : (turn : Turn) (r : Tallied) (w' t' l' w'' t'' l'' : List ℕ) → call_of turn.session (answer_is turn.answer) w'' t'' ≡ list_end s r.tally w' t' → l'' ≡ list_after r l'
-      → end_with s r w' t' l' ≡ list_call_with o s section w t (ids_in ids) l → ended_of (record { turn = turn; count = r.count; made = r.made }) w'' t'' l'' ≡ list_call_with o s section w t (ids_in ids) l
+  pub list_ends : (turn : Turn) (r : Tallied) (w' t' l' w'' t'' l'' : List ℕ) → call_of turn.session (answer_is turn.answer) w'' t'' ≡ list_end s r.of w' t' → l'' ≡ list_after r l'
+      → end_with s r w' t' l' ≡ list_call_with o s section w t (ids_in ids) l → ended_of (record { of = turn; count = r.count; made = r.made }) w'' t'' l'' ≡ list_call_with o s section w t (ids_in ids) l
   unfolding ended_of end_with
   list_ends turn r w' t' l' w'' t'' l'' e el f = (λ i. record { call = e i; count = r.count; list = el i; made = r.made }) ∙ f

@@ -10,8 +10,8 @@ use Rattle.spec_session.specs.calls.Lists.{ids_in, tailed, list_end}
 use Rattle.session_requests.specs.declared.options.Options.{Options}
 use Rattle.session_requests.specs.declared.options.Wanted.{Wanted}
 use Rattle.session_requests.specs.declared.options.Wanted.TheVariants.{One, All, Ids}
-use Rattle.session_requests.specs.declared.options.Progress.{Progress}
-use Rattle.session_requests.specs.declared.options.Tallied.{Tallied}
+use Rattle.session_requests.specs.options.Counted.{Progress}
+use Rattle.session_requests.specs.options.Counted.{Tallied}
 use Rattle.session_requests.specs.options.Requests.{CallWith, type_call_with, types_call_with}
 
 -- what comes after some entries, which stand in the first bytes of the list
@@ -58,14 +58,14 @@ cleared_if false len t = t
 -- where the ids of a list have come to, of which so many were accepted; and after an id that is not below the count of types
 abbrev pub tally_of : Progress → ℕ → Tallied
 tally_of p accepted = record {
-  tally = record { len = p.reached.len; stop = p.reached.stop; accepted = accepted; visits = p.reached.visits };
+  of = record { len = p.of.len; stop = p.of.stop; accepted = accepted; visits = p.of.visits };
   count = p.count;
   made = p.made;
 }
 
 abbrev pub unknown_after : Progress → Progress
 unknown_after p = record {
-  reached = record { len = p.reached.len; stop = Some NoSuchId; visits = p.reached.visits };
+  of = record { len = p.of.len; stop = Some NoSuchId; visits = p.of.visits };
   count = p.count;
   made = p.made;
 }
@@ -73,10 +73,10 @@ unknown_after p = record {
 -- the list after so many accepted ids, as `tailed` has the text; a refusal that closes the session zeroes what follows the entries
 unfoldable pub list_after : Tallied → List ℕ → List ℕ
 list_after r l =
-    elim (stays_open r.tally.stop) [
-      | true ↦ tailed r.tally.accepted (r.count * 12) l
+    elim (stays_open r.of.stop) [
+      | true ↦ tailed r.of.accepted (r.count * 12) l
       | false ↦ then_zeros (length l) (r.count * 12) l
     ]
 
 unfoldable pub end_with : Session → Tallied → List ℕ → List ℕ → List ℕ → CallWith
-end_with s r w t l = record { call = list_end s r.tally w t; count = r.count; list = list_after r l; made = r.made }
+end_with s r w t l = record { call = list_end s r.of w t; count = r.count; list = list_after r l; made = r.made }

@@ -1,7 +1,5 @@
 -- What the options of a call say.
-use Rattle.std.specs.Prelude.{ℕ, Bool, true, false, Option, Some, None, Result, Ok}
-use Rattle.spec_bytes.specs.declared.refusal.Refusal.{Refusal}
-use Rattle.c_dumper_dependency_order.specs.ways.Idle.{idle_in}
+use Rattle.std.specs.Prelude.{ℕ, Bool, true, false, Option, Some, None}
 use Rattle.session_requests.specs.declared.options.Options.{Options}
 use Rattle.session_requests.specs.declared.options.Options.TheVariants.{Plain, Within, Listed}
 
@@ -27,9 +25,3 @@ abbrev pub ceiling_of : Options → Option ℕ
 ceiling_of Plain = None
 ceiling_of (Within c) = Some c
 ceiling_of Listed = None
-
--- the calls made after a request that has nothing to do, where k were made before it: it opens one, which only a ceiling counts
-abbrev pub idle_made : Options → ℕ → Result ℕ Refusal
-idle_made Plain k = Ok k
-idle_made (Within c) k = idle_in k c
-idle_made Listed k = Ok k

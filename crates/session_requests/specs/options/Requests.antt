@@ -12,12 +12,13 @@ use Rattle.spec_session.specs.calls.Calls.{requested}
 use Rattle.spec_session.specs.origin_calls.Bytes.{Reached as Noted, requested_noted, CauseCall}
 use Rattle.spec_session.specs.metered.Within.{Within, CallWithin}
 use Rattle.spec_session.specs.metered.Metered.{calls_in}
+use Rattle.c_dumper_dependency_order.specs.ways.Idle.{counted}
 use Rattle.c_dumper_emit.specs.entries.Noted.{entries_of}
 use Rattle.c_dumper_emit.specs.dump_type.Kept.{Before}
 use Rattle.session_requests.specs.declared.options.Options.{Options}
-use Rattle.session_requests.specs.options.Options.{is_listed, is_counted, most_calls, idle_made}
-use Rattle.session_requests.specs.declared.options.Progress.{Progress}
-use Rattle.session_requests.specs.declared.options.Ended.{Ended}
+use Rattle.session_requests.specs.options.Options.{is_listed, is_counted, most_calls, ceiling_of}
+use Rattle.session_requests.specs.options.Counted.{Progress}
+use Rattle.session_requests.specs.options.Counted.{Ended}
 
 -- where the requests of a call have come to, the entries of the accepted ones, and the calls of ordering made
 pub record Stage : Type 0 where
@@ -27,14 +28,14 @@ pub record Stage : Type 0 where
 
 -- what the code's struct says, with the slices at that moment
 unfoldable pub stage_of : Progress → List ℕ → List ℕ → List ℕ → Stage
-stage_of r w t l = record { reach = reach_of r.reached w t; entries = entries_of r.count l; made = r.made }
+stage_of r w t l = record { reach = reach_of r.of w t; entries = entries_of r.count l; made = r.made }
 
 -- the same without the entries, or without the calls
 unfoldable pub within_of : Progress → List ℕ → List ℕ → Within
-within_of r w t = record { reach = reach_of r.reached w t; made = r.made }
+within_of r w t = record { reach = reach_of r.of w t; made = r.made }
 
 unfoldable pub noted_of : Progress → List ℕ → List ℕ → List ℕ → Noted
-noted_of r w t l = record { reach = reach_of r.reached w t; entries = entries_of r.count l }
+noted_of r w t l = record { reach = reach_of r.of w t; entries = entries_of r.count l }
 
 -- ---- the options
 
@@ -48,6 +49,10 @@ made_under is_set k opens = elim is_set [ true ↦ k + opens | false ↦ k ]
 -- what holds of the count before each request
 abbrev pub Under : Options → ℕ → Type 0
 Under o k = (is_counted o) ≡ true → k ≤ (most_calls o)
+
+-- what holds between two requests: the text and the list hold what was written
+abbrev pub Fits : Options → Progress → List ℕ → List ℕ → Type 0
+Fits o p t l = (p.of.len ≤ length t) × (p.count ≤ entries_in l) × Under o p.made
 
 -- the words for the leaders, which only a list needs: one an id, and nothing noted in this turn yet
 abbrev pub Ready : Options → ℕ → List ℕ → Type 0
@@ -88,14 +93,14 @@ module _ (o : Options) (more : ℕ → Bool) (b : TypeTable) (s : List ℕ) wher
 -- a request that has nothing to write
 unfoldable pub idle_after : Progress → Options → Progress
 idle_after p o =
-    elim (idle_made o p.made) [
+    elim (counted (ceiling_of o) p.made) [
       | Ok k ↦ record {
-        reached = record { len = p.reached.len; stop = None; visits = p.reached.visits };
+        of = record { len = p.of.len; stop = None; visits = p.of.visits };
         count = p.count;
         made = k;
       }
       | Err c ↦ record {
-        reached = record { len = p.reached.len; stop = Some c; visits = p.reached.visits };
+        of = record { len = p.of.len; stop = Some c; visits = p.of.visits };
         count = p.count;
         made = p.made;
       }
@@ -109,14 +114,14 @@ pub record CallWith : Type 0 where
   pub made : ℕ
 
 unfoldable pub ended_of : Ended → List ℕ → List ℕ → List ℕ → CallWith
-ended_of r w t l = record { call = call_of r.turn.session (answer_is r.turn.answer) w t; count = r.count; list = l; made = r.made }
+ended_of r w t l = record { call = call_of r.of.session (answer_is r.of.answer) w t; count = r.count; list = l; made = r.made }
 
 -- the same of today's calls: under a ceiling, and with a list
 unfoldable pub counted_of : Ended → List ℕ → List ℕ → CallWithin
-counted_of r w t = record { call = call_of r.turn.session (answer_is r.turn.answer) w t; made = r.made }
+counted_of r w t = record { call = call_of r.of.session (answer_is r.of.answer) w t; made = r.made }
 
 unfoldable pub explained_of : Ended → List ℕ → List ℕ → List ℕ → CauseCall
-explained_of r w t l = record { call = call_of r.turn.session (answer_is r.turn.answer) w t; count = r.count; list = l }
+explained_of r w t l = record { call = call_of r.of.session (answer_is r.of.answer) w t; count = r.count; list = l }
 
 unfoldable pub settled_with : Session → ℕ → ℕ → List ℕ → Stage → CallWith
 settled_with s work text list r = record {

@@ -1,15 +1,14 @@
 -- Laws of texts that are written: the cases of `put_out` and `put_text`, one text after another, and what the steps of the
 -- code that writes come to. Assumes nothing.
-use Prim.Native.Nat.{ℕ, suc, min, ◌+◌, ◌-◌, ◌<◌, ◌≤◌}
+use Prim.Native.Nat.{ℕ, min, ◌+◌, ◌-◌, ◌<◌, ◌≤◌}
 use mathlib.Core.Path.{◌≡◌, refl, ap, ap₂, ◌∙◌, sym}
 use mathlib.Core.List.{List, [], ◌∷◌, ◌++◌, append_assoc}
 use mathlib.Core.Bool.{true}
 use mathlib.Core.Logic.{⊎_elim}
 use native.Mathlib.Omega.{arith}
 use native.Mathlib.Nat.{add_assoc}
-use native.Mathlib.Numerals.{add-one}
-use lib.ListN.{length, set, take, drop, replicate, length-append, length-drop}
-use lib.Seq.{length-take-le, take_at, drop-drop, drop-append-add, set_split, append_snoc, paste, paste-zero, take-length}
+use lib.ListN.{length, take, drop, replicate, length-append, length-drop}
+use lib.Seq.{length-take-le, take_at, drop-drop, drop-append-add, paste, paste-zero, take-length}
 use borrow.Rule.Slice.PartMut.{put_mid}
 use borrow.Author.Tests.{le-leb, lt-leb}
 use Rattle.std.specs.Prelude.{Ok, Err, IsErrAnd}
@@ -214,13 +213,6 @@ put_full t at s h = sym (put_none t at (whole s) h)
 pub put_cut : (t : List ℕ) (at : ℕ) (c : Refusal) → put_out (Err c) t ≡ put_text t (Ok at) (cut [] (refusal_number c))
 unfolding put_out bytes
 put_cut t at c = sym (put_fits t at (cut [] (refusal_number c)) (omega arith) ∙ cut_is t at [] (refusal_number c))
-
--- one byte stored is one byte written
-pub put_set : (t : List ℕ) (at b : ℕ) → at < length t → put_out (Ok (at + 1)) (set t at b) ≡ put_text t (Ok at) (whole (b ∷ []))
-unfolding put_out bytes written
-put_set t at b h =
-    rw (put_fits t at (whole (b ∷ [])) (omega arith), set_split t at b h, add-one)
-    (ap (λ (l : List ℕ). done l (suc at)) (sym (append_snoc (take at t) b (drop (suc at) t))))
 
 -- bytes copied over a part of t are those bytes written
 pub put_over : (t : List ℕ) (at : ℕ) (s : List ℕ) (k : ℕ) (u : List ℕ) → at + length s ≤ length t → k ≡ length s → u ≡ s → put_out (Ok (at + length s)) (put_mid at k t u) ≡ put_text t (Ok at) (whole s)

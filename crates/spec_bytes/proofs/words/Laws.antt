@@ -2,13 +2,11 @@
 -- Assumes nothing.
 use Prim.Native.Nat.{ℕ, zero, suc, zero-le, suc-le-suc, ◌+◌, ◌*◌, ◌/◌, ◌%◌, ◌<◌, ◌≤◌}
 use mathlib.Core.Path.{◌≡◌, refl, ap, ◌∙◌, sym}
-use mathlib.Core.List.{List, [], ◌++◌, append-nil}
+use mathlib.Core.List.{List}
 use mathlib.Core.Bool.{Bool, true, false}
 use mathlib.Core.Logic.{⊎_elim, ◌⊎◌, inl, inr, ◌≢◌}
 use native.Mathlib.Omega.{arith}
-use lib.ListN.{length, get_or, set, length-set, get_or-eq_default, drop, replicate, drop_of_length-le}
-use native.Mathlib.Nat.{le_refl}
-use borrow.Author.Fill.{fill_more}
+use lib.ListN.{length, get_or, set, length-set, get_or-eq_default}
 use lib.Seq.{ext_get_or, set_comm, get_or-set_same, get_or-set_other}
 use lib.Dec.{ltb}
 use borrow.Author.Tests.{lt-ltb, le-ltb}
@@ -276,24 +274,6 @@ put_swap b i k u v n = ⊎_elim (λ l. rw (put_out b i u l) (sym (put_out _ i u 
         ∙ set_swap b (i * 4) (k * 4) u v (⊎_elim (λ q. inr (omega arith)) (λ q. inl (omega arith)) (le_or_lt i k))
         ∙ ap (λ (c : List ℕ). set_word c (i * 4) u) (sym (put_in b k v m))
         ∙ sym (put_in (put_word b k v) i u (rw (put_length b k v) l))
-
--- w with its first i bytes 0
-pub cleared : List ℕ → ℕ → List ℕ
-cleared w i = replicate i 0 ++ drop i w
-
-pub cleared_none : (w : List ℕ) → w ≡ cleared w 0
-unfolding cleared
-cleared_none w = refl
-
-pub cleared_more : (w u : List ℕ) (i : ℕ) → i < length w → u ≡ cleared w i → set u i 0 ≡ cleared w (i + 1)
-unfolding cleared
-cleared_more w u i h e = rw e (fill_more i 0 w h)
-
-pub cleared_all : (w u : List ℕ) (i : ℕ) → length w ≡ i → u ≡ cleared w i → u ≡ replicate (length w) 0
-unfolding cleared
-cleared_all w u i h e =
-    let none : drop (length w) w ≡ [] = drop_of_length-le w (le_refl _) in
-    e ∙ rw (← h, none) (append-nil _)
 
 -- what reading and storing a word cite
 pub ruleset steps = (get_in, get_out, read_in, read_out, put_in, put_out)

@@ -1,8 +1,8 @@
--- The smaller and the larger of two numbers.
+-- The smaller of two numbers.
 use Prim.Native.Nat.{ℕ, ◌≤◌, ◌<◌}
 use mathlib.Core.Path.{◌≡◌}
 use borrow.Author.Tests.{le-leb, lt-leb}
-use Rattle.spec_c_dumper.specs.rules.Layout.{smaller, larger}
+use Rattle.spec_c_dumper.specs.rules.Layout.{smaller}
 
 module _ (x y : ℕ) where
   pub smaller_first : x ≤ y → x ≡ smaller x y
@@ -12,11 +12,3 @@ module _ (x y : ℕ) where
   pub smaller_second : y < x → y ≡ smaller x y
   unfolding smaller
   smaller_second h = rw (lt-leb x y h, smaller)
-
-  pub larger_second : x ≤ y → y ≡ larger x y
-  unfolding larger
-  larger_second h = rw (le-leb x y h, larger)
-
-  pub larger_first : y < x → x ≡ larger x y
-  unfolding larger
-  larger_first h = rw (lt-leb x y h, larger)

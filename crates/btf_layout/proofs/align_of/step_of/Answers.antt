@@ -76,7 +76,7 @@ pub returns-in-Ptr : goal.returns-in-Ptr
 returns-in-Ptr c = own_ptr _ _ _ _ c.of.ensures c.in-Ptr.is
 
 pub returns-in-Array : goal.returns-in-Array
-returns-in-Array c = through_array _ _ _ _ c.of.ensures c.in-Array.is _ c.array_type.ensures
+returns-in-Array c = through_array _ _ _ _ c.of.ensures c.in-Array.is _ c.extra_word.ensures
 
 pub returns-in-Struct : goal.returns-in-Struct
 returns-in-Struct c = to_members _ _ _ _ c.of.ensures c.in-Struct.is _ c.entries_of.ensures

@@ -24,13 +24,13 @@ pub returns-in_err-element-in-Array : goal.returns-in_err-element-in-Array
 returns-in_err-element-in-Array t c =
     let deep : (c.args.left - c.loop-passed.passed ≡ 0) → ⊥ = λ e. omega arith in
     let e : c.from_residual.result ≡ Err c.in_err-element-in-Array.field-0.0 = search rules in
-    ap ask_of e ∙ size_array _ _ _ _ _ deep _ c.type_by_id-t.ensures _ c.of.ensures _ _ _ _ c.in-Array.is c.array_type.ensures refl c.get_size_of.ensures (then_err _ _ _ c.in_err-element-in-Array.was) ∙ sym c.loop-passed.invariant
+    ap ask_of e ∙ size_array _ _ _ _ _ deep _ c.type_by_id-t.ensures _ c.of.ensures _ _ _ _ c.in-Array.is c.extra_word.ensures refl c.get_size_of.ensures (then_err _ _ _ c.in_err-element-in-Array.was) ∙ sym c.loop-passed.invariant
 
 pub returns-in-Array : goal.returns-in-Array
 returns-in-Array t c =
     let deep : (c.args.left - c.loop-passed.passed ≡ 0) → ⊥ = λ e. omega arith in
     let once : ask_of c.ok_or.result ≡ checked (c.array_nelems.result * c.in_ok-element-in-Array.element) = fits_checked _ _ c.checked_mul.ensures _ c.ok_or.ensures.value in
-    size_array _ _ _ _ _ deep _ c.type_by_id-t.ensures _ c.of.ensures _ _ _ _ c.in-Array.is c.array_type.ensures c.array_nelems.ensures c.get_size_of.ensures (then_ok _ _ _ _ c.in_ok-element-in-Array.was once) ∙ sym c.loop-passed.invariant
+    size_array _ _ _ _ _ deep _ c.type_by_id-t.ensures _ c.of.ensures _ _ _ _ c.in-Array.is c.extra_word.ensures c.array_nelems.ensures c.get_size_of.ensures (then_ok _ _ _ _ c.in_ok-element-in-Array.was once) ∙ sym c.loop-passed.invariant
 
 pub returns-in-Struct : goal.returns-in-Struct
 returns-in-Struct t c =

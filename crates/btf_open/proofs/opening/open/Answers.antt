@@ -13,8 +13,8 @@ pub examine-requires : goal.examine-requires
 unfolding empty_index
 examine-requires c = refl
 
-pub slice_bounds-fill-end : goal.slice_bounds-fill-end
-slice_bounds-fill-end c = sym (c.examine.auto.start ∙ length-replicate {A = ℕ} 262145 0)
+pub slice_bounds-index-end : goal.slice_bounds-index-end
+slice_bounds-index-end c = sym (c.examine.auto.start ∙ length-replicate {A = ℕ} 262145 0)
 
 pub returns-in_err-counts : goal.returns-in_err-counts
 returns-in_err-counts c =

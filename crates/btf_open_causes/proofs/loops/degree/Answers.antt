@@ -1,3 +1,4 @@
+use Prim.Native.Nat.{◌%◌}
 use native.Mathlib.Omega.{arith}
 use mathlib.Core.Path.{◌≡◌}
 use mathlib.Core.Logic.{⊎_elim, inl, inr}
@@ -9,10 +10,10 @@ use Rattle.btf_open_causes.proofs.loops.degree.Goals as goal
 
 pub returns-in-Struct : goal.returns-in-Struct
 returns-in-Struct c =
-    elim c.in-Struct.is [ inl e ↦ (let q : c.args.kind ≡ 4 = is _ _ c.numbered.ensures Struct e in deg_composite _ _ _ _ (omega arith) (omega arith)) | inr e ↦ (let q : c.args.kind ≡ 5 = is _ _ c.numbered.ensures Union e in deg_composite _ _ _ _ (omega arith) (omega arith)) ]
+    elim c.in-Struct.is [ inl e ↦ (let q : (c.args.e.word % 32) ≡ 4 = is _ _ c.kind.ensures Struct e in deg_composite _ _ _ _ (omega arith) (omega arith)) | inr e ↦ (let q : (c.args.e.word % 32) ≡ 5 = is _ _ c.kind.ensures Union e in deg_composite _ _ _ _ (omega arith) (omega arith)) ]
 
 pub returns-in_default : goal.returns-in_default
 returns-in_default c =
-    let n4 : c.args.kind ≡ 4 → ⊥ = isnt _ _ c.numbered.ensures Struct c.in_default.not-Struct in
-    let n5 : c.args.kind ≡ 5 → ⊥ = isnt _ _ c.numbered.ensures Union c.in_default.not-Union in
-    deg_other _ _ _ _ (⊎_elim (λ l. inr l) (λ l. inl (omega arith)) (le_or_lt 6 c.args.kind)) _ c.count_at.ensures
+    let n4 : (c.args.e.word % 32) ≡ 4 → ⊥ = isnt _ _ c.kind.ensures Struct c.in_default.not-Struct in
+    let n5 : (c.args.e.word % 32) ≡ 5 → ⊥ = isnt _ _ c.kind.ensures Union c.in_default.not-Union in
+    deg_other _ _ _ _ (⊎_elim (λ l. inr l) (λ l. inl (omega arith)) (le_or_lt 6 (c.args.e.word % 32))) _ c.count_at.ensures

@@ -9,4 +9,4 @@ returns-in_default c = shut_out _ _ _ c.requires (let h = c.in_default.ensures.l
 pub returns-in-0 : goal.returns-in-0
 returns-in-0 c =
     new_is _ _ _ c.requires c.in-Some.ensures.lookup.3.0 (sym (c.in-Some.ensures.lookup.3.1 0) ∙ c.in-0.is) _
-    (deg_by _ _ _ _ _ c.entry-e.ensures _ c.degree.ensures)
+    (deg_by _ _ _ _ _ c.entry.ensures _ c.degree.ensures)

@@ -1,4 +1,4 @@
-use Rattle.std.proofs.Common.{rules, tests, ℕ}
+use Rattle.std.proofs.Common.{rules, tests, ℕ, ◌%◌, ◌/◌}
 use Rattle.std.proofs.lemmas.Iterator.{first_from_Range}
 use Rattle.btf_open_causes.specs.references.Followed.{id_at}
 use Rattle.btf_open_causes.specs.loops.Loops.{graph_of}
@@ -7,6 +7,6 @@ use Rattle.btf_open_causes.proofs.loops.pass.Goals as goal
 
 pub returns : goal.returns
 returns c =
-    let to = id_at c.args.b.now.head c.args.b.now.section.now c.args.kind c.args.at in
-    first_from_Range _ _ _ c.find.result (λ (k : ℕ). Open c.args.st.now (to k)) (λ (k : ℕ). Safe (graph_of c.args.b.now.head c.args.b.now.section.now c.args.start.now) (to k)) c.find.ensures.ran
+    let to = id_at c.args.i.now.table.head c.args.i.now.table.section.now (c.args.e.word % 32) (c.args.e.word / 32) in
+    first_from_Range _ _ _ c.find.result (λ (k : ℕ). Open c.args.st.now (to k)) (λ (k : ℕ). Safe (graph_of c.args.i.now.table.head c.args.i.now.table.section.now c.args.i.now.start.now) (to k)) c.find.ensures.ran
     (λ x q k. search (rules, tests)) (λ x q k. search (rules, tests))

@@ -4,7 +4,7 @@ use Rattle.btf_open_causes.proofs.loops.Walks.{scan_yes, scan_more, scan_no}
 use Rattle.btf_open_causes.proofs.loops.scan.Goals as goal
 
 pub walk-requires : goal.walk-requires
-walk-requires c = (c.loop-x.invariant.0, omega (arith, count_fits c.args.b.now.head))
+walk-requires c = (c.loop-x.invariant.0, omega (arith, count_fits c.args.i.now.table.head))
 
 pub returns-then-walk : goal.returns-then-walk
 returns-then-walk c = scan_yes _ _ _ _ _ c.walk.ensures c.if-walk.true

@@ -1,3 +1,4 @@
+use Prim.Native.Nat.{◌%◌}
 use native.Mathlib.Omega.{arith}
 use mathlib.Core.Path.{◌≡◌}
 use mathlib.Core.Logic.{⊎_elim, inl, inr}
@@ -9,11 +10,11 @@ use Rattle.btf_open_causes.proofs.prototypes.asks.Goals as goal
 
 pub returns-in-Array : goal.returns-in-Array
 returns-in-Array c =
-    elim c.in-Array.is [ inl e ↦ (let q : c.args.kind ≡ 3 = is _ _ c.numbered.ensures Array e in asks_inside _ _ _ _ (omega arith) (omega arith) _ c.count_at.ensures) | inr o ↦ elim o [ inl e ↦ (let q : c.args.kind ≡ 4 = is _ _ c.numbered.ensures Struct e in asks_inside _ _ _ _ (omega arith) (omega arith) _ c.count_at.ensures) | inr e ↦ (let q : c.args.kind ≡ 5 = is _ _ c.numbered.ensures Union e in asks_inside _ _ _ _ (omega arith) (omega arith) _ c.count_at.ensures) ] ]
+    elim c.in-Array.is [ inl e ↦ (let q : (c.args.e.word % 32) ≡ 3 = is _ _ c.kind.ensures Array e in asks_inside _ _ _ _ (omega arith) (omega arith) _ c.count_at.ensures) | inr o ↦ elim o [ inl e ↦ (let q : (c.args.e.word % 32) ≡ 4 = is _ _ c.kind.ensures Struct e in asks_inside _ _ _ _ (omega arith) (omega arith) _ c.count_at.ensures) | inr e ↦ (let q : (c.args.e.word % 32) ≡ 5 = is _ _ c.kind.ensures Union e in asks_inside _ _ _ _ (omega arith) (omega arith) _ c.count_at.ensures) ] ]
 
 pub returns-in_default : goal.returns-in_default
 returns-in_default c =
-    let n3 : c.args.kind ≡ 3 → ⊥ = isnt _ _ c.numbered.ensures Array c.in_default.not-Array in
-    let n4 : c.args.kind ≡ 4 → ⊥ = isnt _ _ c.numbered.ensures Struct c.in_default.not-Struct in
-    let n5 : c.args.kind ≡ 5 → ⊥ = isnt _ _ c.numbered.ensures Union c.in_default.not-Union in
-    asks_none _ _ _ _ (⊎_elim (λ l. inr l) (λ l. inl (omega arith)) (le_or_lt 6 c.args.kind))
+    let n3 : (c.args.e.word % 32) ≡ 3 → ⊥ = isnt _ _ c.kind.ensures Array c.in_default.not-Array in
+    let n4 : (c.args.e.word % 32) ≡ 4 → ⊥ = isnt _ _ c.kind.ensures Struct c.in_default.not-Struct in
+    let n5 : (c.args.e.word % 32) ≡ 5 → ⊥ = isnt _ _ c.kind.ensures Union c.in_default.not-Union in
+    asks_none _ _ _ _ (⊎_elim (λ l. inr l) (λ l. inl (omega arith)) (le_or_lt 6 (c.args.e.word % 32)))

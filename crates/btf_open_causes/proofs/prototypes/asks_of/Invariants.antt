@@ -8,4 +8,4 @@ use Prim.Native.Nat.{ℕ, ◌<◌}
 use Rattle.btf_open_causes.proofs.prototypes.asks_of.Given as goal
 
 abbrev pub invariant-loop-k : goal.invariant-loop-k
-invariant-loop-k l = Rest (track_of l.b.head l.b.section.now l.start) l.cell × ((v : ℕ) → v < l.k → leads_to (track_of l.b.head l.b.section.now l.start) (followed_id l.b.head l.b.section.now l.start l.x v) ≡ false)
+invariant-loop-k l = Rest (track_of l.i.table.head l.i.table.section.now l.i.start.now) l.cell × ((v : ℕ) → v < l.k → leads_to (track_of l.i.table.head l.i.table.section.now l.i.start.now) (followed_id l.i.table.head l.i.table.section.now l.i.start.now l.x v) ≡ false)

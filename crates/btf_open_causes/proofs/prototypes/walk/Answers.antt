@@ -7,11 +7,11 @@ pub loop-seen-init : goal.loop-seen-init
 loop-seen-init c = (run_start _ _ _ c.requires, c.look-seen.ensures)
 
 pub loop-seen-smaller : goal.loop-seen-smaller
-loop-seen-smaller c = omega (arith, run_less (track_of c.args.b.now.head c.args.b.now.section.now c.args.start.now) _ _ _ _ c.loop-seen.invariant.0 (looked_as (track_of c.args.b.now.head c.args.b.now.section.now c.args.start.now) _ _ _ c.loop-seen.invariant.1 _ c.in-Unknown.is))
+loop-seen-smaller c = omega (arith, run_less (track_of c.args.i.now.table.head c.args.i.now.table.section.now c.args.i.now.start.now) _ _ _ _ c.loop-seen.invariant.0 (looked_as (track_of c.args.i.now.table.head c.args.i.now.table.section.now c.args.i.now.start.now) _ _ _ c.loop-seen.invariant.1 _ c.in-Unknown.is))
 
 pub loop-seen-preserved : goal.loop-seen-preserved
 loop-seen-preserved c =
-    (run_more _ _ _ _ _ c.loop-seen.invariant.0 (looked_as (track_of c.args.b.now.head c.args.b.now.section.now c.args.start.now) _ _ _ c.loop-seen.invariant.1 _ c.in-Unknown.is) _ c.next-z.ensures, c.look-seen-in-Unknown.ensures)
+    (run_more _ _ _ _ _ c.loop-seen.invariant.0 (looked_as (track_of c.args.i.now.table.head c.args.i.now.table.section.now c.args.i.now.start.now) _ _ _ c.loop-seen.invariant.1 _ c.in-Unknown.is) _ c.next-z.ensures, c.look-seen-in-Unknown.ensures)
 
 pub settle-requires : goal.settle-requires
 settle-requires c = settle_yes _ _ _ _ _ c.loop-seen.invariant.0 (looked_as _ _ _ _ c.loop-seen.invariant.1 _ c.in-Yes.is)

@@ -8,7 +8,7 @@ returns-then-ends_with c =
     elim c.if-starts_with.branch [
       | then-starts_with w ↦
           area_all _ (sym c.starts_with.ensures.value ∙ w.if-starts_with.true) (sym w.ends_with.ensures.value ∙ sym w.value-is ∙ c.if-ends_with.true)
-          _ c.largest.ensures
+          _ c.is_ascii.ensures.cases
       | else-starts_with w ↦ absurd (true≢false (sym c.if-ends_with.true ∙ w.value-is ∙ w.if-starts_with.false))
     ]
 

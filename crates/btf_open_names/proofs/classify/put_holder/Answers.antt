@@ -17,6 +17,6 @@ find-r-requires c = (keys.finds _ _ _ _ _ _ c.in-Some.ensures (spaced _) _ _ c.r
 pub returns : goal.returns
 returns c =
     elim c.if-r-k.branch [
-      | then-r-k w ↦ laws.place_first _ _ (class_p _) (bucket_p _) (link_p _) _ _ _ _ c.requires (keys.class_other _ _ _ _ _ _ c.in-Some.ensures (spaced _)) (keys.bucket_is _ _ _ _ _ _ c.in-Some.ensures _ _ c.hash.ensures) c.find-r.ensures w.if-r-k.true _ _ _ _ w.get-next.ensures w.put-then-r-k.ensures (w.work-is ∙ w.put-then-r-k-2.ensures) c.put-2.ensures
+      | then-r-k w ↦ laws.place_first _ _ (class_p _) (bucket_p _) (link_p _) _ _ _ _ c.requires (keys.class_other _ _ _ _ _ _ c.in-Some.ensures (spaced _)) (keys.bucket_is _ _ _ _ _ _ c.in-Some.ensures _ _ c.hash.ensures) c.find-r.ensures w.if-r-k.true _ _ _ _ refl refl (w.work-is ∙ w.put_in_front.ensures) c.put-2.ensures
       | else-r-k w ↦ laws.place_later _ _ (class_p _) (bucket_p _) (link_p _) _ _ _ _ c.requires (keys.class_other _ _ _ _ _ _ c.in-Some.ensures (spaced _)) (keys.bucket_is _ _ _ _ _ _ c.in-Some.ensures _ _ c.hash.ensures) c.find-r.ensures (keys.places _) w.if-r-k.false _ c.put-2.new.work (λ i. omega (arith, c.type_inv.work i)) (w.work-is ∙ w.put-else-r-k.ensures) c.put-2.ensures
     ]

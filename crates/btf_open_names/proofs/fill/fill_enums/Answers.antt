@@ -15,7 +15,7 @@ pub overflow_add-first : goal.overflow_add-first
 overflow_add-first c = omega (arith, few_of _ _ _ _ c.values_at-n.ensures)
 
 pub loop-x-preserved : goal.loop-x-preserved
-loop-x-preserved c = (enums_more _ _ _ _ c.loop-x.x c.loop-x.auto.x _ c.entry_of-entry.ensures _ c.values_at-n.ensures _ c.loop-x.invariant.1 _ c.loop-x.invariant.0 _ c.fill_enum.ensures, first_more _ _ _ c.args.work.now c.loop-x.x c.loop-x.auto.x _ c.entry_of-entry.ensures _ c.values_at-n.ensures _ c.loop-x.invariant.1, omega arith, omega (arith, few_of _ _ _ _ c.values_at-n.ensures), search rules)
+loop-x-preserved c = (enums_more _ _ _ _ c.loop-x.x c.loop-x.auto.x _ c.entry_of-e.ensures _ c.values_at-n.ensures _ c.loop-x.invariant.1 _ c.loop-x.invariant.0 _ c.fill_enum.ensures, first_more _ _ _ c.args.work.now c.loop-x.x c.loop-x.auto.x _ c.entry_of-e.ensures _ c.values_at-n.ensures _ c.loop-x.invariant.1, omega arith, omega (arith, few_of _ _ _ _ c.values_at-n.ensures), search rules)
 
 pub returns : goal.returns
 returns c = enums_all _ _ _ _ _ (c.loop-x.x - 1) _ c.loop-x.invariant.0 (omega arith)

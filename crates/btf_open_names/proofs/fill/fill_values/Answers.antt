@@ -8,7 +8,7 @@ pub loop-k-init : goal.loop-k-init
 loop-k-init c = (values_none _ _ _ _ _, refl)
 
 pub value_place-requires : goal.value_place-requires
-value_place-requires c = (c.requires.0, omega arith)
+value_place-requires c = omega arith
 
 pub loop-k-preserved : goal.loop-k-preserved
 loop-k-preserved c = (values_more _ _ _ _ _ _ c.loop-k.k c.loop-k.invariant.0 _ c.enumerator_word.ensures _ c.value_place.ensures _ c.put_word.ensures, search rules)

@@ -7,4 +7,4 @@ pub returns-in_default : goal.returns-in_default
 returns-in_default c = put_none _ _ _ _ _ _ _ c.in_default.ensures refl
 
 pub returns : goal.returns
-returns c = put_some _ _ _ _ _ _ _ c.in-Some.ensures _ _ _ _ (spaced _) c.hash.ensures c.get-next.ensures c.put.ensures c.put-2.ensures
+returns c = put_some _ _ _ _ _ _ _ c.in-Some.ensures _ _ _ _ (spaced _) c.hash.ensures refl refl c.put_in_front.ensures

@@ -1,3 +1,4 @@
+use mathlib.Core.Path.{refl}
 use Rattle.session_requests.proofs.options.Cases as cases
 use Rattle.spec_c_calls.proofs.Lists as lists
 use native.Mathlib.Omega.{arith}
@@ -11,4 +12,4 @@ pub returns-then-record-lt-RECORD_BYTES : goal.returns-then-record-lt-RECORD_BYT
 returns-then-record-lt-RECORD_BYTES c = rw (c.number_or_value.ensures, numbers.closed) (lists.list_short _ _ _ _ _ c.if-ids-lt4.false c.if-record-lt-RECORD_BYTES.true)
 
 pub returns : goal.returns
-returns c = lists.list_is _ _ _ _ _ c.if-record-lt-RECORD_BYTES.false _ c.decode-s.ensures _ _ _ _ _ (omega arith) (omega (arith, c.request-d.type_inv)) (cases.call_list _ _ _ _ _ _ _ _ _ _ c.request-d.ensures) c.listed.ensures
+returns c = lists.list_is _ _ _ _ _ c.if-record-lt-RECORD_BYTES.false _ refl _ _ _ _ _ (omega arith) (omega (arith, c.request_on-d.type_inv)) (cases.call_list _ _ _ _ _ _ _ _ _ _ c.request_on-d.ensures) c.listed.ensures

@@ -1,13 +1,19 @@
-use Rattle.std.proofs.lemmas.Bool.{not_from_true, not_from_false}
-use Rattle.c_dumper_bodies.proofs.chain.Paths.{skip_end, skip_stop, skip_turn}
+use Rattle.std.proofs.Common.{rules, tests}
 use native.Mathlib.Omega.{arith}
+use Rattle.c_dumper_bodies.proofs.chain.Paths.{skipped_le}
+use Rattle.c_dumper_bodies.proofs.chain.Downwards.{found_none, found_some}
 use Rattle.c_dumper_bodies.proofs.modifiers.skip_mods.Goals as goal
 
-pub returns-then-not-is_qualifier : goal.returns-then-not-is_qualifier
-returns-then-not-is_qualifier c = (skip_stop c.args.b.now.head _ _ _ _ _ c.loop-k.invariant _ _ _ (omega arith) c.kind_at.ensures c.is_qualifier.ensures (not_from_false _ c.if-not-is_qualifier.true), omega arith)
+pub returns-in_default : goal.returns-in_default
+returns-in_default c =
+    (found_none c.args.b.now.head c.args.b.now.section.now c.args.work.now c.args.start _ _ _ _ c.args.n c.rev.ensures.source c.find.ensures.ran (λ x q k. search (rules, tests)) (λ x q k. search (rules, tests)) c.in_default.is, omega arith)
 
-pub loop-k-preserved : goal.loop-k-preserved
-loop-k-preserved c = skip_turn c.args.b.now.head _ _ _ _ _ c.loop-k.invariant _ _ _ (omega arith) c.kind_at.ensures c.is_qualifier.ensures (not_from_true _ c.if-not-is_qualifier.false)
+pub overflow_add-result : goal.overflow_add-result
+overflow_add-result c =
+    let e = found_some c.args.b.now.head c.args.b.now.section.now c.args.work.now c.args.start _ _ _ _ c.args.n c.rev.ensures.source c.find.ensures.ran (λ x q k. search (rules, tests)) (λ x q k. search (rules, tests)) _ c.in-Some.is in
+    omega (arith, e, skipped_le c.args.b.now.head c.args.b.now.section.now c.args.work.now c.args.start c.args.n, c.ranges.n.fits)
 
 pub returns : goal.returns
-returns c = (skip_end c.args.b.now.head _ _ _ _ _ c.loop-k.invariant (omega arith), omega arith)
+returns c =
+    let e = found_some c.args.b.now.head c.args.b.now.section.now c.args.work.now c.args.start _ _ _ _ c.args.n c.rev.ensures.source c.find.ensures.ran (λ x q k. search (rules, tests)) (λ x q k. search (rules, tests)) _ c.in-Some.is in
+    (e, omega (arith, e, skipped_le c.args.b.now.head c.args.b.now.section.now c.args.work.now c.args.start c.args.n))

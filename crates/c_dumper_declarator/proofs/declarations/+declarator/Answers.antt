@@ -13,26 +13,26 @@ use Rattle.c_dumper_bodies.specs.chain.Chains.{chain_at}
 use native.Mathlib.Omega.{arith}
 use Rattle.c_dumper_declarator.proofs.declarations.+declarator.Goals as goal
 
-pub emit_array-returns-then-n-eq0 : goal.emit_array-returns-then-n-eq0
-emit_array-returns-then-n-eq0 t c = entries.array_name _ _ _ _ _ _ _ _ _ _ _ _ _ c.if-n-eq0.true c.emit_name.ensures
+pub emit_array-returns-then-c-eq0 : goal.emit_array-returns-then-c-eq0
+emit_array-returns-then-c-eq0 t c = entries.array_name _ _ _ _ _ _ _ _ _ _ _ _ _ c.if-c-eq0.true c.emit_name.ensures
 
 pub emit_array-emit_type_chain-requires : goal.emit_array-emit_type_chain-requires
 emit_array-emit_type_chain-requires t c = (omega arith, c.requires)
 
 pub emit_array-returns-in-Array : goal.emit_array-returns-in-Array
-emit_array-returns-in-Array t c = entries.array_array _ _ _ _ _ _ _ _ _ _ _ c.if-n-eq0.false _ _ _ _ _ _ c.kind_at.ensures c.in-Array.is c.in_ok-a.ensures c.emit_type_chain.ensures
+emit_array-returns-in-Array t c = entries.array_array _ _ _ _ _ _ _ _ _ _ _ c.if-c-eq0.false _ _ _ _ _ _ c.kind_at.ensures c.in-Array.is c.in_ok-a.ensures c.emit_type_chain.ensures
 
-pub emit_array-returns-in_ok-e-in_default : goal.emit_array-returns-in_ok-e-in_default
-emit_array-returns-in_ok-e-in_default t c = entries.array_other _ _ _ _ _ _ _ _ _ _ _ c.if-n-eq0.false _ _ _ _ _ _ _ _ _ _ c.kind_at.ensures c.in_default.not-Array c.in_ok-a.ensures c.in_ok-c-in_default.ensures c.in_ok-e-in_default.ensures c.put_byte-in_default.ensures
+pub emit_array-returns-in_ok-f-in_default : goal.emit_array-returns-in_ok-f-in_default
+emit_array-returns-in_ok-f-in_default t c = entries.array_other _ _ _ _ _ _ _ _ _ _ _ c.if-c-eq0.false _ _ _ _ _ _ _ _ _ _ c.kind_at.ensures c.in_default.not-Array c.in_ok-a.ensures c.in_ok-e-in_default.ensures c.in_ok-f-in_default.ensures c.put_byte-in_default.ensures
 
 pub emit_array-returns-in_err-a : goal.emit_array-returns-in_err-a
-emit_array-returns-in_err-a t c = entries.array_halts _ _ _ _ _ _ _ _ _ _ _ c.if-n-eq0.false _ _ _ c.in_err-a.ensures c.from_residual.ensures.1
-
-pub emit_array-returns-in_err-c-in_default : goal.emit_array-returns-in_err-c-in_default
-emit_array-returns-in_err-c-in_default t c = entries.array_other _ _ _ _ _ _ _ _ _ _ _ c.if-n-eq0.false _ _ _ _ _ _ _ _ _ _ c.kind_at.ensures c.in_default.not-Array c.in_ok-a.ensures c.in_err-c-in_default.ensures (said_past _ _ _ _) (put_ended _ _ _ _ c.from_residual-in_err-c-in_default.ensures.1)
+emit_array-returns-in_err-a t c = entries.array_halts _ _ _ _ _ _ _ _ _ _ _ c.if-c-eq0.false _ _ _ c.in_err-a.ensures c.from_residual.ensures.1
 
 pub emit_array-returns-in_err-e-in_default : goal.emit_array-returns-in_err-e-in_default
-emit_array-returns-in_err-e-in_default t c = entries.array_other _ _ _ _ _ _ _ _ _ _ _ c.if-n-eq0.false _ _ _ _ _ _ _ _ _ _ c.kind_at.ensures c.in_default.not-Array c.in_ok-a.ensures c.in_ok-c-in_default.ensures c.in_err-e-in_default.ensures (put_ended _ _ _ _ c.from_residual-in_err-e-in_default.ensures.1)
+emit_array-returns-in_err-e-in_default t c = entries.array_other _ _ _ _ _ _ _ _ _ _ _ c.if-c-eq0.false _ _ _ _ _ _ _ _ _ _ c.kind_at.ensures c.in_default.not-Array c.in_ok-a.ensures c.in_err-e-in_default.ensures (said_past _ _ _ _) (put_ended _ _ _ _ c.from_residual-in_err-e-in_default.ensures.1)
+
+pub emit_array-returns-in_err-f-in_default : goal.emit_array-returns-in_err-f-in_default
+emit_array-returns-in_err-f-in_default t c = entries.array_other _ _ _ _ _ _ _ _ _ _ _ c.if-c-eq0.false _ _ _ _ _ _ _ _ _ _ c.kind_at.ensures c.in_default.not-Array c.in_ok-a.ensures c.in_ok-e-in_default.ensures c.in_err-f-in_default.ensures (put_ended _ _ _ _ c.from_residual-in_err-f-in_default.ensures.1)
 
 pub emit_base-returns-in-Int : goal.emit_base-returns-in-Int
 emit_base-returns-in-Int t c = entries.word_name_lem _ _ _ _ _ _ _ _ c.of.ensures _ _ _ _ _ _ c.in-Int.is (put_only _ _ _ _ _ _ c.put_str.ensures)
@@ -136,26 +136,26 @@ emit_function-returns-in_err-a t c = entries.function_put _ _ _ _ _ _ _ _ _ _ _ 
 pub emit_function-returns-in_err-f : goal.emit_function-returns-in_err-f
 emit_function-returns-in_err-f t c = entries.function_put _ _ _ _ _ _ _ _ _ _ _ _ _ _ _ _ _ _ _ _ c.args.t _ c.skip_mods-m.ensures.0 refl c.in_ok-a.ensures c.in_err-f.ensures (said_ended _ _ _ _ _ c.from_residual-in_err-f.ensures.1)
 
-pub emit_links-loop-c-init : goal.emit_links-loop-c-init
-emit_links-loop-c-init t c = (leads_start _ _ _ _ _, c.requires)
+pub emit_links-loop-rest-init : goal.emit_links-loop-rest-init
+emit_links-loop-rest-init t c = (leads_start _ _ _ _ _, c.requires)
 
 pub emit_links-emit_entry-requires : goal.emit_links-emit_entry-requires
-emit_links-emit_entry-requires t c = (omega arith, (c.loop-c-test.true, c.loop-c.invariant.1))
+emit_links-emit_entry-requires t c = (omega arith, (c.loop-rest-test.true, c.loop-rest.invariant.1))
 
 pub emit_links-returns-in_err-e : goal.emit_links-returns-in_err-e
-emit_links-returns-in_err-e t c = chains.links_whole _ _ _ _ _ _ _ _ _ _ _ _ _ _ (chains.chain_stops _ _ _ _ _ _ _ _ _ _ _ _ _ _ _ _ _ c.loop-c-test.true c.loop-c.invariant.0 c.in_err-e.ensures c.from_residual.ensures.1)
+emit_links-returns-in_err-e t c = chains.links_whole _ _ _ _ _ _ _ _ _ _ _ _ _ _ (chains.chain_stops _ _ _ _ _ _ _ _ _ _ _ _ _ _ _ _ _ c.loop-rest-test.true c.loop-rest.invariant.0 c.in_err-e.ensures c.from_residual.ensures.1)
 
-pub emit_links-loop-c-smaller : goal.emit_links-loop-c-smaller
-emit_links-loop-c-smaller t c = let h = chains.rest_below c.args.b.now.head c.args.b.now.section.now (chain_at c.args.b.now.head c.args.b.now.section.now c.loop-c.work c.args.d.id) _ _ _ c.in-Some.is c.in_ok-e.ensures.1 in omega arith
+pub emit_links-loop-rest-smaller : goal.emit_links-loop-rest-smaller
+emit_links-loop-rest-smaller t c = let h = chains.rest_below c.args.b.now.head c.args.b.now.section.now (chain_at c.args.b.now.head c.args.b.now.section.now c.loop-rest.work c.args.d.id) _ _ _ c.in-Some.is c.in_ok-e.ensures.1 in omega arith
 
-pub emit_links-loop-c-preserved : goal.emit_links-loop-c-preserved
-emit_links-loop-c-preserved t c = (chains.chain_again _ _ _ _ _ _ _ _ _ _ _ _ _ _ _ _ _ c.in-Some.is c.loop-c-test.true c.loop-c.invariant.0 c.in_ok-e.ensures, chains.chain_links _ _ _ _ _ _ _ _ _ _ _ _ _ _ c.in-Some.is c.in_ok-e.ensures c.loop-c.invariant.1)
+pub emit_links-loop-rest-preserved : goal.emit_links-loop-rest-preserved
+emit_links-loop-rest-preserved t c = (chains.chain_again _ _ _ _ _ _ _ _ _ _ _ _ _ _ _ _ _ c.in-Some.is c.loop-rest-test.true c.loop-rest.invariant.0 c.in_ok-e.ensures, chains.chain_links _ _ _ _ _ _ _ _ _ _ _ _ _ _ c.in-Some.is c.in_ok-e.ensures c.loop-rest.invariant.1)
 
 pub emit_links-returns-in_default : goal.emit_links-returns-in_default
-emit_links-returns-in_default t c = chains.links_whole _ _ _ _ _ _ _ _ _ _ _ _ _ _ (chains.chain_stands _ _ _ _ _ _ _ _ _ _ _ _ _ _ _ _ c.in_default.is c.loop-c-test.true c.loop-c.invariant.0 c.in_ok-e.ensures)
+emit_links-returns-in_default t c = chains.links_whole _ _ _ _ _ _ _ _ _ _ _ _ _ _ (chains.chain_stands _ _ _ _ _ _ _ _ _ _ _ _ _ _ _ _ c.in_default.is c.loop-rest-test.true c.loop-rest.invariant.0 c.in_ok-e.ensures)
 
 pub emit_links-returns : goal.emit_links-returns
-emit_links-returns t c = chains.links_whole _ _ _ _ _ _ _ _ _ _ _ _ _ _ (chains.chain_ends _ _ _ _ _ _ _ _ _ _ _ _ _ _ _ c.loop-c.invariant.0 (omega arith) c.emit_name.ensures)
+emit_links-returns t c = chains.links_whole _ _ _ _ _ _ _ _ _ _ _ _ _ _ (chains.chain_ends _ _ _ _ _ _ _ _ _ _ _ _ _ _ _ c.loop-rest.invariant.0 (omega arith) c.emit_name.ensures)
 
 pub emit_param-returns-then-is_any_more : goal.emit_param-returns-then-is_any_more
 emit_param-returns-then-is_any_more t c = members.param_any _ _ _ _ _ _ _ _ _ _ _ _ c.param_place-p.ensures c.word-type_id.ensures _ c.is_any_more.ensures _ _ c.in_ok-a.ensures _ _ c.if-is_any_more.true c.put_word.ensures
@@ -181,20 +181,20 @@ emit_params-returns t c = members.params_whole _ _ _ _ _ _ _ _ _ _ _ _ _ _ _ c.s
 pub emit_params-returns-in_err-p-2 : goal.emit_params-returns-in_err-p-2
 emit_params-returns-in_err-p-2 t c = members.params_whole _ _ _ _ _ _ _ _ _ _ _ _ _ _ _ c.shown_params-shown.ensures c.in_ok-p.ensures (members.params_halt _ _ _ _ _ _ _ _ _ _ _ _ _ _ _ _ _ c.loop-k-test.true c.loop-k.invariant c.in_err-p-2.ensures c.from_residual-in_err-p-2.ensures.1)
 
-pub emit_proto-returns-then-n-eq0 : goal.emit_proto-returns-then-n-eq0
-emit_proto-returns-then-n-eq0 t c = entries.proto_name _ _ _ _ _ _ _ _ _ _ _ _ _ c.if-n-eq0.true c.emit_name.ensures
+pub emit_proto-returns-then-c-eq0 : goal.emit_proto-returns-then-c-eq0
+emit_proto-returns-then-c-eq0 t c = entries.proto_name _ _ _ _ _ _ _ _ _ _ _ _ _ c.if-c-eq0.true c.emit_name.ensures
 
 pub emit_proto-emit_type_chain-requires : goal.emit_proto-emit_type_chain-requires
 emit_proto-emit_type_chain-requires t c = (omega arith, c.requires)
 
 pub emit_proto-returns : goal.emit_proto-returns
-emit_proto-returns t c = entries.proto_some _ _ _ _ _ _ _ _ _ _ _ c.if-n-eq0.false _ _ _ _ _ _ _ c.in_ok-a.ensures c.in_ok-c.ensures c.put_byte.ensures
+emit_proto-returns t c = entries.proto_some _ _ _ _ _ _ _ _ _ _ _ c.if-c-eq0.false _ _ _ _ _ _ _ c.in_ok-a.ensures c.in_ok-e.ensures c.put_byte.ensures
 
 pub emit_proto-returns-in_err-a : goal.emit_proto-returns-in_err-a
-emit_proto-returns-in_err-a t c = entries.proto_some _ _ _ _ _ _ _ _ _ _ _ c.if-n-eq0.false _ _ _ _ _ _ _ c.in_err-a.ensures (said_past _ _ _ _) (put_ended _ _ _ _ c.from_residual.ensures.1)
+emit_proto-returns-in_err-a t c = entries.proto_some _ _ _ _ _ _ _ _ _ _ _ c.if-c-eq0.false _ _ _ _ _ _ _ c.in_err-a.ensures (said_past _ _ _ _) (put_ended _ _ _ _ c.from_residual.ensures.1)
 
-pub emit_proto-returns-in_err-c : goal.emit_proto-returns-in_err-c
-emit_proto-returns-in_err-c t c = entries.proto_some _ _ _ _ _ _ _ _ _ _ _ c.if-n-eq0.false _ _ _ _ _ _ _ c.in_ok-a.ensures c.in_err-c.ensures (put_ended _ _ _ _ c.from_residual-in_err-c.ensures.1)
+pub emit_proto-returns-in_err-e : goal.emit_proto-returns-in_err-e
+emit_proto-returns-in_err-e t c = entries.proto_some _ _ _ _ _ _ _ _ _ _ _ c.if-c-eq0.false _ _ _ _ _ _ _ c.in_ok-a.ensures c.in_err-e.ensures (put_ended _ _ _ _ c.from_residual-in_err-e.ensures.1)
 
 pub emit_type_chain-returns-then-left-eq0 : goal.emit_type_chain-returns-then-left-eq0
 emit_type_chain-returns-then-left-eq0 t c = chains.chain_zero _ _ _ _ _ _ _ _ _ c.if-left-eq0.true
@@ -209,13 +209,13 @@ pub emit_type_decl-returns-then-left-eq0 : goal.emit_type_decl-returns-then-left
 emit_type_decl-returns-then-left-eq0 t c = chains.decl_zero _ _ _ _ _ _ _ _ _ c.if-left-eq0.true
 
 pub emit_type_decl-emit_based-requires : goal.emit_type_decl-emit_based-requires
-emit_type_decl-emit_based-requires t c = (omega arith, (chains.decl_record _ _ _ _ _ c.chain_base.ensures.1 c.in_ok-x.ensures.ok_part, links_chain _ _ _ _ _ _ c.chain_base.ensures.0 c.in_ok-x.ensures.ok_part))
+emit_type_decl-emit_based-requires t c = (omega arith, (chains.decl_record _ _ _ _ _ c.chain_base.ensures.1 c.in_ok-base.ensures.ok_part, links_chain _ _ _ _ _ _ c.chain_base.ensures.0 c.in_ok-base.ensures.ok_part))
 
 pub emit_type_decl-returns : goal.emit_type_decl-returns
-emit_type_decl-returns t c = chains.decl_got _ _ _ _ _ _ _ _ _ c.if-left-eq0.false _ c.chain_base.ensures _ _ _ _ c.in_ok-x.ensures.ok_part c.emit_based.ensures
+emit_type_decl-returns t c = chains.decl_got _ _ _ _ _ _ _ _ _ c.if-left-eq0.false _ c.chain_base.ensures _ _ _ _ c.in_ok-base.ensures.ok_part c.emit_based.ensures
 
-pub emit_type_decl-returns-in_err-x : goal.emit_type_decl-returns-in_err-x
-emit_type_decl-returns-in_err-x t c = chains.decl_no _ _ _ _ _ _ _ _ _ c.if-left-eq0.false _ c.chain_base.ensures _ _ c.in_err-x.ensures.value c.from_residual.ensures.1
+pub emit_type_decl-returns-in_err-base : goal.emit_type_decl-returns-in_err-base
+emit_type_decl-returns-in_err-base t c = chains.decl_no _ _ _ _ _ _ _ _ _ c.if-left-eq0.false _ c.chain_base.ensures _ _ c.in_err-base.ensures.value c.from_residual.ensures.1
 
 pub members::emit_composite_def-returns-then-left-eq0 : goal.members::emit_composite_def-returns-then-left-eq0
 members::emit_composite_def-returns-then-left-eq0 t c = members.def_zero _ _ _ _ _ _ _ _ _ _ _ _ c.if-left-eq0.true
@@ -224,31 +224,31 @@ pub members::emit_composite_def-returns-then-is_builtin : goal.members::emit_com
 members::emit_composite_def-returns-then-is_builtin t c = members.def_builtin _ _ _ _ _ _ _ _ _ _ _ _ _ c.if-left-eq0.false refl (sym c.is_builtin.ensures ∙ c.if-is_builtin.true)
 
 pub members::emit_composite_def-returns : goal.members::emit_composite_def-returns
-members::emit_composite_def-returns t c = members.def_body _ _ _ _ _ _ _ _ _ _ _ _ _ c.if-left-eq0.false (sym c.is_builtin.ensures ∙ c.if-is_builtin.false) _ _ c.in_ok-packed.ensures _ _ _ _ _ _ _ _ _ refl c.deeper.ensures c.in_ok-a.ensures c.in_ok-c.ensures c.emit_composite_end.ensures
+members::emit_composite_def-returns t c = members.def_body _ _ _ _ _ _ _ _ _ _ _ _ _ c.if-left-eq0.false (sym c.is_builtin.ensures ∙ c.if-is_builtin.false) _ _ c.in_ok-packed.ensures _ _ _ _ _ _ _ _ _ refl refl c.in_ok-a.ensures c.in_ok-c.ensures c.emit_composite_end.ensures
 
 pub members::emit_composite_def-returns-in_err-a : goal.members::emit_composite_def-returns-in_err-a
 members::emit_composite_def-returns-in_err-a t c = members.def_body _ _ _ _ _ _ _ _ _ _ _ _ _ c.if-left-eq0.false (sym c.is_builtin.ensures ∙ c.if-is_builtin.false) _ _ c.in_ok-packed.ensures _ _ _ _ _ _ _ _ _ refl refl c.in_err-a.ensures (said_past _ _ _ _) (said_ended _ _ _ _ _ c.from_residual-in_err-a.ensures.1)
 
 pub members::emit_composite_def-returns-in_err-c : goal.members::emit_composite_def-returns-in_err-c
-members::emit_composite_def-returns-in_err-c t c = members.def_body _ _ _ _ _ _ _ _ _ _ _ _ _ c.if-left-eq0.false (sym c.is_builtin.ensures ∙ c.if-is_builtin.false) _ _ c.in_ok-packed.ensures _ _ _ _ _ _ _ _ _ refl c.deeper.ensures c.in_ok-a.ensures c.in_err-c.ensures (said_ended _ _ _ _ _ c.from_residual-in_err-c.ensures.1)
+members::emit_composite_def-returns-in_err-c t c = members.def_body _ _ _ _ _ _ _ _ _ _ _ _ _ c.if-left-eq0.false (sym c.is_builtin.ensures ∙ c.if-is_builtin.false) _ _ c.in_ok-packed.ensures _ _ _ _ _ _ _ _ _ refl refl c.in_ok-a.ensures c.in_err-c.ensures (said_ended _ _ _ _ _ c.from_residual-in_err-c.ensures.1)
 
 pub members::emit_composite_def-returns-in_err-packed : goal.members::emit_composite_def-returns-in_err-packed
 members::emit_composite_def-returns-in_err-packed t c = members.def_refused _ _ _ _ _ _ _ _ _ _ _ _ c.if-left-eq0.false (sym c.is_builtin.ensures ∙ c.if-is_builtin.false) _ _ c.in_err-packed.ensures _ _ refl c.from_residual.ensures.1
 
 pub members::emit_member-returns : goal.members::emit_member-returns
-members::emit_member-returns t c = (members.member_said _ _ _ _ _ _ _ _ _ _ _ _ _ _ _ _ _ _ _ _ _ _ _ _ _ c.load_member-m.ensures c.bare.ensures c.in_ok-a.ensures c.in_ok-c.ensures c.in_ok-e.ensures c.in_ok-f.ensures c.emit_member_end.ensures.0, members.member_ends _ _ _ _ _ _ _ c.load_member-m.ensures c.emit_member_end.ensures.1)
+members::emit_member-returns t c = (members.member_said _ _ _ _ _ _ _ _ _ _ _ _ _ _ _ _ _ _ _ _ _ _ _ _ _ _ c.load_member-m.ensures c.bare.ensures c.deeper-lvl.ensures c.in_ok-a.ensures c.in_ok-c.ensures c.in_ok-e.ensures c.in_ok-f.ensures c.emit_member_end.ensures.0, members.member_ends _ _ _ _ _ _ _ c.load_member-m.ensures c.emit_member_end.ensures.1)
 
 pub members::emit_member-returns-in_err-a : goal.members::emit_member-returns-in_err-a
-members::emit_member-returns-in_err-a t c = halted _ _ _ _ _ _ _ _ _ (members.member_said _ _ _ _ _ _ _ _ _ _ _ _ _ _ _ _ _ _ _ _ _ _ _ _ _ c.load_member-m.ensures c.bare.ensures c.in_err-a.ensures (put_past _ _ (whole _)) (put_past _ _ (whole _)) (said_past _ _ _ _) (said_past _ _ _ _)) c.from_residual.ensures.1
+members::emit_member-returns-in_err-a t c = halted _ _ _ _ _ _ _ _ _ (members.member_said _ _ _ _ _ _ _ _ _ _ _ _ _ _ _ _ _ _ _ _ _ _ _ _ _ _ c.load_member-m.ensures c.bare.ensures c.deeper-lvl.ensures c.in_err-a.ensures (put_past _ _ (whole _)) (put_past _ _ (whole _)) (said_past _ _ _ _) (said_past _ _ _ _)) c.from_residual.ensures.1
 
 pub members::emit_member-returns-in_err-c : goal.members::emit_member-returns-in_err-c
-members::emit_member-returns-in_err-c t c = halted _ _ _ _ _ _ _ _ _ (members.member_said _ _ _ _ _ _ _ _ _ _ _ _ _ _ _ _ _ _ _ _ _ _ _ _ _ c.load_member-m.ensures c.bare.ensures c.in_ok-a.ensures c.in_err-c.ensures (put_past _ _ (whole _)) (said_past _ _ _ _) (said_past _ _ _ _)) c.from_residual-in_err-c.ensures.1
+members::emit_member-returns-in_err-c t c = halted _ _ _ _ _ _ _ _ _ (members.member_said _ _ _ _ _ _ _ _ _ _ _ _ _ _ _ _ _ _ _ _ _ _ _ _ _ _ c.load_member-m.ensures c.bare.ensures c.deeper-lvl.ensures c.in_ok-a.ensures c.in_err-c.ensures (put_past _ _ (whole _)) (said_past _ _ _ _) (said_past _ _ _ _)) c.from_residual-in_err-c.ensures.1
 
 pub members::emit_member-returns-in_err-e : goal.members::emit_member-returns-in_err-e
-members::emit_member-returns-in_err-e t c = halted _ _ _ _ _ _ _ _ _ (members.member_said _ _ _ _ _ _ _ _ _ _ _ _ _ _ _ _ _ _ _ _ _ _ _ _ _ c.load_member-m.ensures c.bare.ensures c.in_ok-a.ensures c.in_ok-c.ensures c.in_err-e.ensures (said_past _ _ _ _) (said_past _ _ _ _)) c.from_residual-in_err-e.ensures.1
+members::emit_member-returns-in_err-e t c = halted _ _ _ _ _ _ _ _ _ (members.member_said _ _ _ _ _ _ _ _ _ _ _ _ _ _ _ _ _ _ _ _ _ _ _ _ _ _ c.load_member-m.ensures c.bare.ensures c.deeper-lvl.ensures c.in_ok-a.ensures c.in_ok-c.ensures c.in_err-e.ensures (said_past _ _ _ _) (said_past _ _ _ _)) c.from_residual-in_err-e.ensures.1
 
 pub members::emit_member-returns-in_err-f : goal.members::emit_member-returns-in_err-f
-members::emit_member-returns-in_err-f t c = halted _ _ _ _ _ _ _ _ _ (members.member_said _ _ _ _ _ _ _ _ _ _ _ _ _ _ _ _ _ _ _ _ _ _ _ _ _ c.load_member-m.ensures c.bare.ensures c.in_ok-a.ensures c.in_ok-c.ensures c.in_ok-e.ensures c.in_err-f.ensures (said_past _ _ _ _)) c.from_residual-in_err-f.ensures.1
+members::emit_member-returns-in_err-f t c = halted _ _ _ _ _ _ _ _ _ (members.member_said _ _ _ _ _ _ _ _ _ _ _ _ _ _ _ _ _ _ _ _ _ _ _ _ _ _ c.load_member-m.ensures c.bare.ensures c.deeper-lvl.ensures c.in_ok-a.ensures c.in_ok-c.ensures c.in_ok-e.ensures c.in_err-f.ensures (said_past _ _ _ _)) c.from_residual-in_err-f.ensures.1
 
 pub members::emit_members-loop-k-init : goal.members::emit_members-loop-k-init
 members::emit_members-loop-k-init t c = leads_start _ _ _ _ _
@@ -260,4 +260,4 @@ pub members::emit_members-loop-k-preserved : goal.members::emit_members-loop-k-p
 members::emit_members-loop-k-preserved t c = members.members_again _ _ _ _ _ _ _ _ _ _ _ _ _ _ _ _ _ _ _ _ _ c.loop-k-test.true c.loop-k.invariant c.in_ok-s.ensures
 
 pub members::emit_members-returns : goal.members::emit_members-returns
-members::emit_members-returns t c = members.members_whole _ _ _ _ _ _ _ _ _ _ _ _ _ _ _ _ c.vlen_of-vlen.ensures (members.members_end _ _ _ _ _ _ _ _ _ _ _ _ _ _ _ _ _ _ _ (omega arith) c.loop-k.invariant c.emit_tail_padding.ensures)
+members::emit_members-returns t c = members.members_whole _ _ _ _ _ _ _ _ _ _ _ _ _ _ _ _ c.vlen_of-vlen.ensures (members.members_end _ _ _ _ _ _ _ _ _ _ _ _ _ _ _ _ _ _ _ _ (omega arith) c.deeper.ensures c.loop-k.invariant c.emit_tail_padding.ensures)

@@ -4,6 +4,7 @@ use mathlib.Core.Path.{◌≡◌}
 use Rattle.std.specs.Prelude.{Ok}
 use Rattle.spec_type_table.specs.Records.{member_of, kind_of}
 use Rattle.spec_c_dumper.specs.rules.Placing.{tail_pads}
+use Rattle.spec_c_dumper.specs.rules.Decl.{deeper}
 use lib.Dec.{eqb}
 use Rattle.spec_type_table.specs.Table.{param_of, rule_member}
 use Rattle.c_dumper_name_versions.specs.names.Spelling.{name_text}
@@ -58,15 +59,15 @@ decreases-members::emit_member l = 8 * l.below + 4
 abbrev pub decreases-members::emit_members : goal.decreases-members::emit_members
 decreases-members::emit_members l = 8 * l.below + 5
 
-abbrev pub invariant-emit_links-loop-c : goal.invariant-emit_links-loop-c
-invariant-emit_links-loop-c l = (Leads l.b.head l.b.section.now l.initial.text (Ok l.initial.p) (chain_left l.b.head l.b.section.now l.below l.d.id (name_text l.b.head l.b.section.now l.d.name) l.d.lvl l.initial.c l.initial.work) l.text (Ok l.p) (chain_left l.b.head l.b.section.now l.below l.d.id (name_text l.b.head l.b.section.now l.d.name) l.d.lvl l.c l.work))
-    × (only_links (chain_at l.b.head l.b.section.now l.work l.d.id l.c.n) ≡ true)
+abbrev pub invariant-emit_links-loop-rest : goal.invariant-emit_links-loop-rest
+invariant-emit_links-loop-rest l = (Leads l.b.head l.b.section.now l.initial.text (Ok l.initial.p) (chain_left l.b.head l.b.section.now l.below l.d.id (name_text l.b.head l.b.section.now l.d.name) l.d.lvl l.initial.rest l.initial.work) l.text (Ok l.p) (chain_left l.b.head l.b.section.now l.below l.d.id (name_text l.b.head l.b.section.now l.d.name) l.d.lvl l.rest l.work))
+    × (only_links (chain_at l.b.head l.b.section.now l.work l.d.id l.rest.n) ≡ true)
 
-abbrev pub decreases-emit_links-loop-c : goal.decreases-emit_links-loop-c
-decreases-emit_links-loop-c l = l.c.n
+abbrev pub decreases-emit_links-loop-rest : goal.decreases-emit_links-loop-rest
+decreases-emit_links-loop-rest l = l.rest.n
 
 abbrev pub invariant-emit_params-loop-k : goal.invariant-emit_params-loop-k
 invariant-emit_params-loop-k l = Leads l.b.head l.b.section.now l.initial.text (Ok l.initial.p) (params_left l.b.head l.b.section.now l.below l.lvl (param_of l.b.head l.b.section.now l.shown.at) l.shown.vlen 0 l.initial.work) l.text (Ok l.p) (params_left l.b.head l.b.section.now l.below l.lvl (param_of l.b.head l.b.section.now l.shown.at) l.shown.vlen l.k l.work)
 
 abbrev pub invariant-members::emit_members-loop-k : goal.invariant-members::emit_members-loop-k
-invariant-members::emit_members-loop-k l = Leads l.b.head l.b.section.now l.initial.text (Ok l.initial.s.at) (members_left l.b.head l.b.section.now l.below l.id (tail_pads l.b.head.placing l.b.head.ptr_sz (eqb (kind_of l.t.info) 4) l.t.type_id) l.lvl l.packed (λ j. rule_member l.b.head l.b.section.now (member_of l.b.head l.b.section.now l.t j)) l.vlen 0 l.initial.s.offset l.initial.work) l.text (Ok l.s.at) (members_left l.b.head l.b.section.now l.below l.id (tail_pads l.b.head.placing l.b.head.ptr_sz (eqb (kind_of l.t.info) 4) l.t.type_id) l.lvl l.packed (λ j. rule_member l.b.head l.b.section.now (member_of l.b.head l.b.section.now l.t j)) l.vlen l.k l.s.offset l.work)
+invariant-members::emit_members-loop-k l = Leads l.b.head l.b.section.now l.initial.text (Ok l.initial.s.at) (members_left l.b.head l.b.section.now l.below l.body.x.id (tail_pads l.b.head.placing l.b.head.ptr_sz (eqb (kind_of l.body.x.t.info) 4) l.body.x.t.type_id) (deeper l.body.lvl) l.body.packed (λ j. rule_member l.b.head l.b.section.now (member_of l.b.head l.b.section.now l.body.x.t j)) l.vlen 0 l.initial.s.offset l.initial.work) l.text (Ok l.s.at) (members_left l.b.head l.b.section.now l.below l.body.x.id (tail_pads l.b.head.placing l.b.head.ptr_sz (eqb (kind_of l.body.x.t.info) 4) l.body.x.t.type_id) (deeper l.body.lvl) l.body.packed (λ j. rule_member l.b.head l.b.section.now (member_of l.b.head l.b.section.now l.body.x.t j)) l.vlen l.k l.s.offset l.work)

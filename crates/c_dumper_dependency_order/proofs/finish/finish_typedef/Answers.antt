@@ -1,13 +1,15 @@
-use mathlib.Core.Path.{◌∙◌, sym}
-use Rattle.c_dumper_dependency_order.proofs.begin.Laws as begin
+use Rattle.c_dumper_dependency_order.proofs.finish.finish_typedef.Goals.{else-has_ptr-via-then-has_ptr+else-not-o, else-has_ptr-via-else-has_ptr}
+use mathlib.Core.Path.{refl}
+use Rattle.std.proofs.Math.Bool.{or-true}
+use Rattle.std.proofs.lemmas.Bool.{not-true, not-false}
 use Rattle.c_dumper_dependency_order.proofs.order_type.Laws as laws
 use Rattle.c_dumper_dependency_order.proofs.finish.finish_typedef.Goals as goal
 
-pub returns-then-is_some : goal.returns-then-is_some
-returns-then-is_some c = laws.stopped _ _ _ _ (sym c.is_some.ensures ∙ c.if-is_some.true)
-
-pub returns-then-not-has_ptr-o : goal.returns-then-not-has_ptr-o
-returns-then-not-has_ptr-o c = laws.alias_off _ _ _ _ _ _ _ (begin.goes_on _ (sym c.is_some.ensures ∙ c.if-is_some.false)) c.if-not-has_ptr-o.true c.strong.ensures
+pub returns-then-not-o : goal.returns-then-not-o
+returns-then-not-o c = laws.alias_off c.args.o _ _ _ _ _ _ (rw (c.if-has_ptr.true) (not-true _ c.if-not-o.true)) c.strong.ensures
 
 pub returns : goal.returns
-returns c = laws.alias_on _ _ _ _ _ _ _ _ _ _ (begin.goes_on _ (sym c.is_some.ensures ∙ c.if-is_some.false)) c.if-not-has_ptr-o.false c.is_ordered-was_ordered.ensures c.finish.ensures
+returns c = laws.alias_on c.args.o _ _ _ _ _ _ _ _ _ (elim c.else-has_ptr.branch [
+  | else-has_ptr-via-then-has_ptr+else-not-o w ↦ rw (not-false _ w.if-not-o.false) (or-true _)
+  | else-has_ptr-via-else-has_ptr w ↦ rw (w.if-has_ptr.false) refl
+]) c.is_done-was_ordered.ensures c.finish.ensures

@@ -6,7 +6,7 @@ pub loop-k-init : goal.loop-k-init
 loop-k-init c = laws.emptied_none _
 
 pub loop-k-preserved : goal.loop-k-preserved
-loop-k-preserved c = laws.emptied_more _ _ _ _ c.loop-k.invariant c.clear_listed.ensures
+loop-k-preserved c = laws.emptied_more _ _ _ _ c.loop-k.invariant c.set_listed.ensures
 
 pub returns : goal.returns
 returns c = laws.emptied_all _ _ _ _ (omega arith) c.loop-k-test.false c.loop-k.invariant

@@ -6,4 +6,4 @@ use mathlib.Core.Path.{◌≡◌}
 use Rattle.c_dumper_padding.proofs.extents.extent_of.Given as goal
 
 abbrev pub invariant-loop-k : goal.invariant-loop-k
-invariant-loop-k l = extent_of (btf_of l.b.head l.b.section.now l.work) l.in_struct l.packed no_extent (members_of l.b.head l.b.section.now l.t) ≡ extent_rest (btf_of l.b.head l.b.section.now l.work) l.b.head l.b.section.now l.t l.in_struct l.packed (extent_is l.x) l.k
+invariant-loop-k l = extent_of (btf_of l.b.head l.b.section.now l.work) l.body.in_struct l.body.packed no_extent (members_of l.b.head l.b.section.now l.t) ≡ extent_rest (btf_of l.b.head l.b.section.now l.work) l.b.head l.b.section.now l.t l.body.in_struct l.body.packed (extent_is l.x) l.k

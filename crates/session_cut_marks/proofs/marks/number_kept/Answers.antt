@@ -11,6 +11,6 @@ use Rattle.session_cut_marks.proofs.marks.number_kept.Goals as goal
 pub returns : goal.returns
 unfolding all_zero
 returns c =
-    let b = c.args.b.now.head in
+    let b = c.args.index.now.table.head in
     ids_are _ _ _ _ _ _ _ _ _ _ _ _ _ c.push_given.ensures.turned c.close.ensures.turned
-    (c.mark_tags.ensures ∙ ap (λ (l : List ℕ). tagged_to b c.args.b.now.section.now c.args.start.now l (type_count b)) (search rules)) c.number.ensures
+    (c.mark_tags.ensures ∙ ap (λ (l : List ℕ). tagged_to b c.args.index.now.table.section.now c.args.index.now.start.now l (type_count b)) (search rules)) c.number.ensures

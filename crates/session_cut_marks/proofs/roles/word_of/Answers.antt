@@ -1,6 +1,5 @@
-use Rattle.session_cut_marks.specs.roles.Words.{word_of}
+use Rattle.session_cut_marks.proofs.roles.Laws.{word_is}
 use Rattle.session_cut_marks.proofs.roles.word_of.Goals as goal
 
 pub returns : goal.returns
-unfolding word_of
-returns c = c.word.ensures
+returns c = word_is _ _ _ _ _ _ c.place.ensures c.word.ensures

@@ -1,11 +1,7 @@
 use mathlib.Core.Path.{◌∙◌}
 use Rattle.std.proofs.lemmas.Result.{err_from_is_err_and}
 use Rattle.session_field_at_bit.proofs.field.Laws as laws
-use native.Mathlib.Omega.{arith}
 use Rattle.session_field_at_bit.proofs.field.+walk.Goals as goal
-
-pub walk-requires : goal.walk-requires
-walk-requires t c = (omega arith, omega arith)
 
 pub returns-in_err-step : goal.returns-in_err-step
 returns-in_err-step t c =

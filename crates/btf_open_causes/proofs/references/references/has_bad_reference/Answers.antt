@@ -9,7 +9,7 @@ use Rattle.btf_open_causes.proofs.references.references.has_bad_reference.Goals 
 pub returns : goal.returns
 unfolding has_bad_reference
 returns c =
-    let test = is_some_bad c.args.b.now.head c.args.b.now.section.now c.args.start.now in
+    let test = is_some_bad c.args.i.now.table.head c.args.i.now.table.section.now c.args.i.now.start.now in
     any_from_yields_List test _ _ c.any.result c.any.ensures.ran (YieldsList-from_range 0 c.count.result c.count.result refl (omega arith)) (λ x b q k. search (rules, tests))
     ∙ any_range test c.count.result
     ∙ ap (λ (n : ℕ). any_below n test) c.count.ensures

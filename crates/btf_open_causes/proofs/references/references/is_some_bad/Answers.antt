@@ -9,9 +9,9 @@ use Rattle.btf_open_causes.proofs.references.references.is_some_bad.Goals as goa
 
 pub returns : goal.returns
 returns c =
-    let e = c.entry-e.result in
+    let e = c.entry-e.result.word in
     let n = c.count_at-n.result in
-    let test = λ (k : ℕ). is_bad c.args.b.now.head c.args.start.now (id_at c.args.b.now.head c.args.b.now.section.now (e % 32) (e / 32) k) in
+    let test = λ (k : ℕ). is_bad c.args.i.now.table.head c.args.i.now.start.now (id_at c.args.i.now.table.head c.args.i.now.table.section.now (e % 32) (e / 32) k) in
     any_from_yields_List test _ _ c.any.result c.any.ensures.ran (YieldsList-from_range 0 n n refl (omega arith)) (λ x b q k. search (rules, tests))
     ∙ any_range test n
-    ∙ some_bad_is c.args.b.now.head c.args.b.now.section.now c.args.start.now c.args.x e n c.entry-e.ensures c.count_at-n.ensures
+    ∙ some_bad_is c.args.i.now.table.head c.args.i.now.table.section.now c.args.i.now.start.now c.args.x e n c.entry-e.ensures c.count_at-n.ensures

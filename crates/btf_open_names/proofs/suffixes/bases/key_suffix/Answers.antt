@@ -1,4 +1,7 @@
-use mathlib.Core.Path.{◌∙◌}
+use mathlib.Core.Path.{ap, ap₂, ◌∙◌}
+use Rattle.btf_open_names.specs.filled_work.Takers.{suffix_on}
+use Rattle.btf_open_names.specs.suffixes.Found.{from_two}
+use Rattle.btf_open_names.proofs.name_classes.Names.{name_of_rest}
 use Rattle.std.proofs.Common.{rules}
 use Rattle.btf_open_names.proofs.suffixes.Based.{suffix_none, suffix_apart, suffix_some}
 use Rattle.btf_open_names.proofs.suffixes.bases.key_suffix.Goals as goal
@@ -10,4 +13,5 @@ pub returns-then-ne : goal.returns-then-ne
 returns-then-ne c = suffix_apart _ _ _ _ c.in_ok-x.was (λ e. search rules)
 
 pub returns : goal.returns
-returns c = suffix_some _ _ _ _ c.in_ok-x.was (search rules) _ c.suffix_on.ensures
+returns c = suffix_some _ _ _ _ c.in_ok-x.was (search rules) _
+    (c.suffix_on.ensures ∙ ap from_two (ap₂ suffix_on (name_of_rest _ _ _ c.from_name.ensures) (name_of_rest _ _ _ c.from_name-2.ensures)))

@@ -1,19 +1,25 @@
-use Rattle.btf_open_names.proofs.filled_work.Bytes.{any_zero, any_found, any_turn, any_end}
-use Rattle.btf_open_names.proofs.suffixes.Found.{is_found, not_found}
-use mathlib.Core.Path.{refl}
+use Rattle.std.proofs.Common.{arith, ap, ◌∙◌, ◌≤◌, length, is_some}
+use Prim.Native.Nat.{ℕ}
+use lib.Dec.{leb}
+use mathlib.Core.List.{List}
+use Rattle.spec_type_table.specs.Names.{name_at}
+use Rattle.btf_open_names.proofs.name_classes.Names.{name_of_part}
+use Rattle.btf_open_names.specs.filled_work.Takers.{suffix_in}
+use Rattle.btf_open_names.proofs.suffixes.Before.{base_inside, any_by}
+use Rattle.btf_open_names.proofs.suffixes.Found.{found_by}
 use Rattle.btf_open_names.proofs.suffixes.suffix.has_suffix.Goals as goal
 
-pub loop-k-init : goal.loop-k-init
-loop-k-init c = refl
+pub slice_bounds-suffix_in-count : goal.slice_bounds-suffix_in-count
+slice_bounds-suffix_in-count c = omega (arith, base_inside c.args.name.now, c.base_len.ensures)
 
-pub returns-then-section-k-eq0 : goal.returns-then-section-k-eq0
-returns-then-section-k-eq0 c = any_zero _ _ _ c.loop-k.invariant c.if-section-k-eq0.true
-
-pub returns-then-is_some : goal.returns-then-is_some
-returns-then-is_some c = any_found _ _ _ c.loop-k.invariant _ c.if-section-k-eq0.false refl (is_found _ _ c.suffix_at.ensures _ c.is_some.ensures c.if-is_some.true)
-
-pub loop-k-preserved : goal.loop-k-preserved
-loop-k-preserved c = any_turn _ _ _ c.loop-k.invariant _ c.if-section-k-eq0.false refl (not_found _ _ c.suffix_at.ensures _ c.is_some.ensures c.if-is_some.false)
+pub slice_bounds-suffix_in-start : goal.slice_bounds-suffix_in-start
+slice_bounds-suffix_in-start c = let h : c.base_len.result ≤ length c.args.name.now = omega (arith, base_inside c.args.name.now, c.base_len.ensures) in h
 
 pub returns : goal.returns
-returns c = any_end _ _ _ c.loop-k.invariant c.loop-k-test.false
+returns c =
+    c.is_some.ensures
+    ∙ ap is_some c.suffix_in.ensures
+    ∙ found_by _
+    ∙ ap (λ (l : List ℕ). leb 2 (suffix_in l)) (name_of_part c.args.name.now c.base_len.result)
+    ∙ ap (λ (n : ℕ). leb 2 (suffix_in (name_at c.args.name.now n))) c.base_len.ensures
+    ∙ any_by c.args.name.now

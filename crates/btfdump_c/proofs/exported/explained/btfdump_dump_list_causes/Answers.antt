@@ -1,3 +1,4 @@
+use mathlib.Core.Path.{refl}
 use Rattle.session_requests.proofs.options.Cases as cases
 use Rattle.btfdump_c.proofs.exported.NumberLaws as numbers
 use Rattle.btfdump_c.proofs.exported.CauseLaws as laws
@@ -10,4 +11,4 @@ pub returns-then-record-lt-RECORD_BYTES : goal.returns-then-record-lt-RECORD_BYT
 returns-then-record-lt-RECORD_BYTES c = rw (c.number_or_value.ensures, numbers.closed) (laws.list_short _ _ _ _ _ _ c.if-ids-lt4.false c.if-record-lt-RECORD_BYTES.true)
 
 pub returns : goal.returns
-returns c = laws.list_is _ _ _ _ _ _ c.if-ids-lt4.false c.if-record-lt-RECORD_BYTES.false _ c.decode-s.ensures _ _ _ _ _ _ (cases.causes_list _ _ _ _ _ _ _ _ _ _ c.request-d.ensures) c.listed.ensures
+returns c = laws.list_is _ _ _ _ _ _ c.if-ids-lt4.false c.if-record-lt-RECORD_BYTES.false _ refl _ _ _ _ _ _ (cases.causes_list _ _ _ _ _ _ _ _ _ _ c.request_on-d.ensures) c.listed.ensures

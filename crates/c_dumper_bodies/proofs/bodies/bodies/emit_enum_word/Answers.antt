@@ -6,4 +6,4 @@ pub returns-then-is_empty : goal.returns-then-is_empty
 returns-then-is_empty c = laws.enum_inline _ _ _ _ _ _ _ _ _ _ _ _ _ (sym c.is_empty.ensures ∙ c.if-is_empty.true) c.emit_enum_def.ensures
 
 pub returns : goal.returns
-returns c = laws.enum_named _ _ _ _ _ _ _ _ _ _ _ _ _ (sym c.is_empty.ensures ∙ c.if-is_empty.false) c.put_enum_name.ensures
+returns c = laws.enum_named _ _ _ _ _ _ _ _ _ _ _ _ _ (sym c.is_empty.ensures ∙ c.if-is_empty.false) c.emit_enum_head.ensures

@@ -1,14 +1,14 @@
-use Rattle.c_dumper_bodies.proofs.chain.Paths.{path_none, path_more}
-use Rattle.c_dumper_bodies.specs.chain.Chains.{path_at}
-use mathlib.Core.Path.{◌≡◌, ◌∙◌, ap}
-use native.Mathlib.Omega.{arith}
+use Rattle.std.proofs.Common.{rules, tests, ℕ, ◌∙◌, refl, arith}
+use Rattle.std.proofs.lemmas.Iterator.{YieldsList-from_range}
+use Rattle.std.proofs.lemmas.Iterator.Consumers.{fold_from_yields_List}
+use Rattle.spec_type_table.specs.Records.{record_by_id}
+use Rattle.c_dumper_bodies.specs.chain.Chains.{next_of}
+use Rattle.c_dumper_bodies.proofs.chain.Paths.{path_walk}
 use Rattle.c_dumper_bodies.proofs.chain.links.path_at.Goals as goal
 
-pub loop-init : goal.loop-init
-loop-init c = path_none c.args.b.now.head _ _ _
-
-pub loop-preserved : goal.loop-preserved
-loop-preserved c = path_more c.args.b.now.head _ _ _ _ _ _ _ c.loop.invariant c.type_by_id.ensures c.next_of-id.ensures
-
 pub returns : goal.returns
-returns c = let e : c.loop.counter ≡ c.args.k = omega arith in c.loop.invariant ∙ ap (path_at c.args.b.now.head c.args.b.now.section.now c.args.work.now c.args.start) e
+returns c =
+    fold_from_yields_List _ (λ (id x : ℕ). next_of c.args.b.now.head c.args.b.now.section.now (record_by_id c.args.b.now.head c.args.b.now.section.now c.args.work.now id)) c.args.start c.fold.result c.fold.ensures.ran
+    (YieldsList-from_range 0 c.args.k c.args.k refl (omega arith))
+    (λ a x b q k. search (rules, tests))
+    ∙ path_walk c.args.b.now.head c.args.b.now.section.now c.args.work.now c.args.start c.args.k

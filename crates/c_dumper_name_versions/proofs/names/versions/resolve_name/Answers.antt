@@ -1,5 +1,7 @@
 use Prim.Native.Nat.{◌+◌, ◌<◌}
-use mathlib.Core.Path.{refl, ap, ◌∙◌}
+use mathlib.Core.Path.{ap, ◌∙◌}
+use Rattle.c_dumper_name_versions.specs.declared.names.versions.Name.{Name}
+use Rattle.c_dumper_name_versions.specs.names.Spelling.{number_of}
 use native.Mathlib.Omega.{arith}
 use Rattle.spec_type_table.specs.Numbers.{number_at}
 use Rattle.spec_type_table.specs.Cells.{class_p, count_p, count_raised}
@@ -15,7 +17,7 @@ pub returns : goal.returns
 returns c =
     let f = c.in-Some.ensures in
     let v = value_counted _ _ _ _ _ f.0 (
-      c.get_number.ensures.0 ∙ ap (number_at c.args.b.types c.args.work.now) f.1,
-      c.get_number.ensures.1 ∙ ap (count_raised (class_p c.args.b.types) (count_p c.args.b.types) c.args.work.now) f.1,
+      c.get_number-n.ensures.0 ∙ ap (number_at c.args.b.types c.args.work.now) f.1,
+      c.get_number-n.ensures.1 ∙ ap (count_raised (class_p c.args.b.types) (count_p c.args.b.types) c.args.work.now) f.1,
     ) in
-    (refl, v.0, v.1)
+    (ap (λ (x : Name). x.off) c.held.ensures, ap (λ (x : Name). x.number) c.held.ensures ∙ ap number_of v.0, v.1)

@@ -1,15 +1,20 @@
-use Rattle.session_cut_marks.proofs.interned.Laws.{probe_start, probe_here, probe_on, probe_none}
+use Prim.Native.Nat.{ℕ, ◌+◌, ◌%◌}
 use native.Mathlib.Omega.{arith}
+use mathlib.Core.Path.{◌∙◌}
+use Rattle.std.proofs.Common.{rules}
+use Rattle.std.proofs.lemmas.Iterator.{YieldsList-from_range, YieldsList-from_map}
+use Rattle.std.proofs.lemmas.Iterator.Search.{find_from_yields_List}
+use Rattle.spec_type_table.specs.Names.{str_at}
+use Rattle.session_cut_marks.specs.interned.Slots.{slot_words, stops}
+use Rattle.session_cut_marks.proofs.interned.Laws.{slot_way}
 use Rattle.session_cut_marks.proofs.interned.slots.slot_of.Goals as goal
 
-pub loop-turn-init : goal.loop-turn-init
-loop-turn-init c = (probe_start _ _ _ _ _ c.hash_name-i.ensures, omega arith)
-
-pub returns-then-stops : goal.returns-then-stops
-returns-then-stops c = probe_here _ _ _ _ _ _ c.loop-turn.invariant.0 c.loop-turn-test.true _ c.stops.ensures c.if-stops.true
-
-pub loop-turn-preserved : goal.loop-turn-preserved
-loop-turn-preserved c = (probe_on _ _ _ _ _ _ c.loop-turn.invariant.0 c.loop-turn-test.true _ c.stops.ensures c.if-stops.false, omega arith)
-
 pub returns : goal.returns
-returns c = probe_none _ _ _ _ _ _ c.loop-turn.invariant.0 c.loop-turn-test.false
+returns c =
+    let b = c.args.b.now in
+    let h = c.hash_at-start.result % 262144 in
+    c.unwrap_or.ensures
+    ∙ slot_way b.head b.section.now (slot_words c.args.table.now) c.args.off _ _ c.hash_at-start.ensures
+    (find_from_yields_List (stops b.head b.section.now (slot_words c.args.table.now) (str_at b.head b.section.now c.args.off)) _ _ c.find.result c.find.ensures.ran
+    (YieldsList-from_map _ (λ (i : ℕ). i % 262144) (YieldsList-from_range h (h + 262144) 262144 c.map.ensures.source (omega arith)) c.map.ensures.closure (λ x r q k. search rules))
+    (λ x b q k. search rules))

@@ -10,5 +10,5 @@ use Rattle.session_cut_marks.proofs.kept.Kept.mentioned_to.Goals as goal
 pub returns : goal.returns
 returns c =
     let kept = c.args.self.now in
-    any_from_yields_List (mentions kept.table.head kept.table.section.now kept.start.now kept.ids.now c.args.off) _ _ c.any.result c.any.ensures.ran (YieldsList-from_range 0 c.args.x c.args.x refl (omega arith)) (λ x b q k. search rules)
-    ∙ any_mentioned kept.table.head kept.table.section.now kept.start.now kept.ids.now c.args.off c.args.x
+    any_from_yields_List (mentions kept.index.table.head kept.index.table.section.now kept.index.start.now kept.ids.now c.args.off) _ _ c.any.result c.any.ensures.ran (YieldsList-from_range 0 c.args.x c.args.x refl (omega arith)) (λ x b q k. search rules)
+    ∙ any_mentioned kept.index.table.head kept.index.table.section.now kept.index.start.now kept.ids.now c.args.off c.args.x

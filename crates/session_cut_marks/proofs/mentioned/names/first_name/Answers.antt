@@ -1,14 +1,13 @@
-use Rattle.session_cut_marks.proofs.mentioned.Laws.{first_start, first_here, first_on, first_none}
+use native.Mathlib.Omega.{arith}
+use mathlib.Core.Path.{refl}
+use Rattle.std.proofs.Common.{rules}
+use Rattle.std.proofs.lemmas.Iterator.{YieldsList-from_range}
+use Rattle.std.proofs.lemmas.Iterator.Search.{find_from_yields_List}
+use Rattle.session_cut_marks.specs.mentioned.Names.{is_name}
+use Rattle.session_cut_marks.proofs.mentioned.Laws.{first_found}
 use Rattle.session_cut_marks.proofs.mentioned.names.first_name.Goals as goal
 
-pub loop-j-init : goal.loop-j-init
-loop-j-init c = first_start _ _ _ _ _
-
-pub returns-then-is_name : goal.returns-then-is_name
-returns-then-is_name c = first_here _ _ _ _ _ _ c.loop-j-test.true c.loop-j.invariant _ c.is_name.ensures c.if-is_name.true
-
-pub loop-j-preserved : goal.loop-j-preserved
-loop-j-preserved c = first_on _ _ _ _ _ _ c.loop-j-test.true c.loop-j.invariant _ c.is_name.ensures c.if-is_name.false
-
 pub returns : goal.returns
-returns c = first_none _ _ _ _ _ _ c.loop-j.auto.j-end c.loop-j-test.false c.loop-j.invariant
+returns c =
+    first_found c.args.b.now.head c.args.b.now.section.now c.args.e.word c.args.off c.args.n _
+    (find_from_yields_List (is_name c.args.b.now.head c.args.b.now.section.now c.args.e.word c.args.off) _ _ c.find.result c.find.ensures.ran (YieldsList-from_range 0 c.args.n c.args.n refl (omega arith)) (λ x b q k. search rules))

@@ -9,5 +9,5 @@ use Rattle.session_cut_marks.proofs.mentioned.names.named_to.Goals as goal
 
 pub returns : goal.returns
 returns c =
-    any_from_yields_List (is_name c.args.b.now.head c.args.b.now.section.now c.args.e c.args.off) _ _ c.any.result c.any.ensures.ran (YieldsList-from_range 0 c.args.n c.args.n refl (omega arith)) (λ x b q k. search rules)
-    ∙ any_named c.args.b.now.head c.args.b.now.section.now c.args.e c.args.off c.args.n
+    any_from_yields_List (is_name c.args.b.now.head c.args.b.now.section.now c.args.e.word c.args.off) _ _ c.any.result c.any.ensures.ran (YieldsList-from_range 0 c.args.n c.args.n refl (omega arith)) (λ x b q k. search rules)
+    ∙ any_named c.args.b.now.head c.args.b.now.section.now c.args.e.word c.args.off c.args.n

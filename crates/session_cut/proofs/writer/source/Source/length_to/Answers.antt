@@ -1,5 +1,4 @@
-use Rattle.session_cut.proofs.writer.Strings.{base_start, more_length, all_length}
-use Rattle.session_cut_marks.proofs.interned.Found.{length_few}
+use Rattle.session_cut.proofs.writer.Strings.{mention_few, base_start, more_length, all_length}
 use native.Mathlib.Omega.{arith}
 use Rattle.session_cut.proofs.writer.source.Source.length_to.Goals as goal
 
@@ -10,9 +9,7 @@ pub mention-requires : goal.mention-requires
 mention-requires c = (c.requires.0, omega (arith, c.requires.1), c.loop-j.invariant)
 
 pub longer-len-requires : goal.longer-len-requires
-longer-len-requires c =
-    let right = c.args.self.now.right in
-    (right.short, omega (arith, c.mention.ensures.same_length, length_few _ _ _ _ _ right _ _ c.requires.0 _ _ (omega (arith, c.requires.1)) c.loop-j.invariant))
+longer-len-requires c = mention_few _ _ _ _ _ c.args.self.now.right _ _ c.requires.0 _ _ _ (omega (arith, c.requires.1)) c.loop-j.invariant c.mention.ensures.same_length
 
 pub loop-j-preserved : goal.loop-j-preserved
 loop-j-preserved c = more_length _ _ _ _ _ _ _ _ _ _ _ _ _ _ c.mention.ensures c.loop-j.invariant c.longer-len.ensures

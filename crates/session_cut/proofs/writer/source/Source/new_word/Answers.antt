@@ -1,4 +1,4 @@
-use Rattle.session_cut.proofs.writer.Laws.{at_word, word_name_lem, word_id, word_plain}
+use Rattle.session_cut.proofs.writer.Laws.{id_or_none, at_word, word_name_lem, word_id, word_plain}
 use mathlib.Core.Path.{refl}
 use Rattle.session_cut_marks.proofs.roles.Laws.{name_digit, id_digit, no_name_digit, no_id_digit}
 use Rattle.session_cut.proofs.writer.source.Source.new_word.Goals as goal
@@ -12,7 +12,7 @@ returns-in-Name c = word_name_lem _ _ _ _ _ _ _ _ _ refl c.word_of-w.ensures (na
 pub returns-in-Id : goal.returns-in-Id
 returns-in-Id c =
     let other = no_name_digit _ _ c.word_role.ensures (λ z. cc) in
-    word_id _ _ _ _ _ _ _ _ _ refl c.word_of-w.ensures other (id_digit _ _ c.word_role.ensures c.in-Id.is) _ c.new_id.ensures
+    word_id _ _ _ _ _ _ _ _ _ refl c.word_of-w.ensures other (id_digit _ _ c.word_role.ensures c.in-Id.is) _ (id_or_none _ _ c.new_id.ensures _ c.unwrap_or.ensures)
 
 pub returns-in-Plain : goal.returns-in-Plain
 returns-in-Plain c =

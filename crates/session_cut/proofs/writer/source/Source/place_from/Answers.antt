@@ -9,4 +9,4 @@ pub returns : goal.returns
 returns c =
     let k = c.args.self.now.kept in
     found_is _ _ _ _ _ _ _ _ (λ x r q h. search (rules, tests)) _ _ c.find_map.ensures.runs
-    ∙ ap (λ (n : ℕ). some_number (place_from k.table.head k.table.section.now k.start.now k.ids.now c.args.self.now.bases.now c.args.off 0 n)) c.count.ensures
+    ∙ ap (λ (n : ℕ). some_number (place_from k.index.table.head k.index.table.section.now k.index.start.now k.ids.now c.args.self.now.bases.now c.args.off 0 n)) c.count.ensures

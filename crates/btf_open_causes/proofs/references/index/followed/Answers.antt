@@ -1,5 +1,0 @@
-use Rattle.btf_open_causes.proofs.references.Accessors.{followed_is}
-use Rattle.btf_open_causes.proofs.references.index.followed.Goals as goal
-
-pub returns : goal.returns
-returns c = followed_is _ _ _ _ c.entry-e.ensures _ _ _ c.id_at.ensures

@@ -1,5 +1,0 @@
-use mathlib.Core.Path.{refl}
-use Rattle.c_dumper_dependency_order.proofs.ways.is_passed.Goals as goal
-
-pub returns : goal.returns
-returns c = refl

@@ -1,0 +1,8 @@
+use Rattle.c_dumper_emit.proofs.entries.Laws as laws
+use Rattle.c_dumper_emit.proofs.emission.Emission.listed_origin.Goals as goal
+
+pub returns-then-id-self : goal.returns-then-id-self
+returns-then-id-self c = laws.cause_own _ _ _ _ c.if-id-self.true
+
+pub returns : goal.returns
+returns c = laws.cause_led _ _ _ _ _ c.if-id-self.false c.leader_of.ensures
