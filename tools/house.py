@@ -70,6 +70,14 @@ def functions(text):
         yield m.group(2), n + 1, len(given), max(0, end - opened - 1)
 
 
+def asking(text):
+    """(name, line) of the public functions that ask something of their callers."""
+    for m in re.finditer(r'(?m)^( *)pub (?:extern "C" )?fn (\w+)', text):
+        head = text[m.start():text.find("\n" + m.group(1) + "{\n", m.start())]
+        if re.search(r"\n\s+requires \{", head):
+            yield m.group(2), text.count("\n", 0, m.start()) + 1
+
+
 def code_lines(text):
     """The lines of code: no comment, no contract, no import, no constant."""
     clause = False
@@ -112,6 +120,7 @@ def main():
         (f"functions over {FUNCTION} lines", [f"{p}:{n}: {f}, {size}" for p, f, n, _, size in all_functions if size > FUNCTION], 0),
         (f"files over {FILE} lines", [f"{p}: {t.count(chr(10))}" for p, t in both if t.count("\n") > FILE], 0),
         (f"functions with more than {PARAMETERS} parameters", [f"{p}:{n}: {f}, {k}" for p, f, n, k, _ in all_functions if k > PARAMETERS], 0),
+        ("public functions with a requires", [f"{p}:{n}: {f}" for p, t in code for f, n in asking(t)], 0),
         ("numbers that have a name", bare, 0),
         ("functions that do nothing", [f"{p}: {s}" for p, t in code for s in re.findall(r"fn same\(x: \w+\) -> \w+", t)], 0),
         ("modules with the name of a crate", [p for p, _ in both if os.path.basename(p).rsplit(".", 1)[0] in names], 0),

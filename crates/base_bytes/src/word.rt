@@ -83,7 +83,8 @@ fn three_apart(b: &[u8], at: usize) -> [u32; 3]
     [word_at(b, at), word_at(b, at + 4), word_at(b, at + 8)]
 }
 
-// The three words at once, most significant byte first if `big`.
+// The three words at once, most significant byte first if `big`. (No `const N` over one and three: an array of N words is made by a loop or
+// by from_fn, which is no plainer than its three words.)
 pub fn three_in(big: bool, b: &[u8], at: usize) -> [u32; 3]
     ensures { result ≡ three_in big b.now at }
 {

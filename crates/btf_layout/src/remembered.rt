@@ -33,7 +33,8 @@ impl Seen {
         }
     }
 
-    // What the word of a type says; 0 is the word of a type of which nothing is remembered.
+    // What the word of a type says; 0 is the word of a type of which nothing is remembered (fixed memory: one word for both numbers). No
+    // From or TryFrom: 0 is no error here, and what does not fit is not remembered.
     #[inline]
     fn from_word(v: u32) -> Option<Seen>
         ensures { known_of result ≡ decoded v }

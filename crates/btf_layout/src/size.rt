@@ -1,4 +1,4 @@
-// Sizes; alignments are asked with a memory (crates remembered, asked). `left` is how many more calls may be open.
+// Sizes; alignments are asked with a memory (`remembered`, `asked`). `left` is how many more calls may be open.
 ghost use Rattle.std.specs.Prelude.{◌≡◌};
 ghost use Rattle.spec_c_dumper.specs.rules.Layout.{get_size_of};
 ghost use Rattle.spec_type_table.specs.Table.{btf_of};

@@ -19,9 +19,8 @@ pub fn examine(
     section: &[u8],
     pointer_size: u32,
     work_len: usize,
-    start: &mut [u32],
+    start: &mut [u32; limit::TYPES_LEN],
 ) -> Result<Counts, Refusal>
-    requires { start.old ≡ empty_index }
     ensures { examine_out result start.new ≡ examined pointer_size section.now work_len }
 {
     if !is_pointer_size(pointer_size) {
@@ -47,12 +46,12 @@ pub fn examine(
 pub fn index_records(
     section: &[u8],
     pointer_size: u32,
-    start: &mut [u32],
+    start: &mut [u32; limit::TYPES_LEN],
 ) -> Result<Counts, Refusal>
-    requires { start.old ≡ empty_index }
     ensures { examine_out result start.new ≡ indexed pointer_size section.now }
 {
     section_cause(section)?;
+    clear_index(start);
     let head = btf_of(section, pointer_size, 0, 0);
     let counts = scan(&Table { head, section }, start).ok_or(Refusal::BadRecord)?;
     let head = btf_of(section, pointer_size, 0, counts.types);
@@ -61,6 +60,13 @@ pub fn index_records(
         return Err(Refusal::BadReference);
     }
     Ok(counts)
+}
+
+// Whatever stood there: no record is known.
+fn clear_index(start: &mut [u32; limit::TYPES_LEN])
+    ensures { start.new ≡ empty_index }
+{
+    start.fill(0);
 }
 
 // Causes 2 to 4.

@@ -1,8 +1,8 @@
 // The header, and what the types of a table need of header and settings.
-ghost use Rattle.std.specs.Prelude.{◌≡◌, ◌<◌, ◌+◌, ◌/◌, ◌%◌, ltb, eqb};
+ghost use Rattle.std.specs.Prelude.{◌≡◌, ◌+◌, ◌/◌, ◌%◌, ltb, eqb};
 ghost use Rattle.spec_bytes.specs.words.Words.{pick};
 ghost use Rattle.spec_linux_btf.specs.Section.{is_big_endian};
-ghost use Rattle.btf_open_causes.specs.header.Header.{header_of, btf_of};
+ghost use Rattle.btf_open_causes.specs.header.Header.{header_of, mode_bit, btf_of};
 
 use base_bytes::limit;
 use base_bytes::word::word_in;
@@ -13,15 +13,29 @@ pub const BIG_MAGIC: [u8; 2] = [0xeb, 0x9f];
 
 pub const LITTLE_MAGIC: [u8; 2] = [0x9f, 0xeb];
 
-// The modes of a session, a bit each.
-pub const UNION_AS_STRUCT: u32 = 1;
+// The modes of a session.
+#[derive(Clone, Copy)]
+pub enum Mode {
+    UnionAsStruct,
+    StrongArrays,
+    Placing,
+    // Names that cannot collide.
+    NamesApart,
+}
 
-pub const STRONG_ARRAYS: u32 = 2;
-
-pub const PLACING: u32 = 4;
-
-// Names that cannot collide.
-pub const NAMES_APART: u32 = 8;
+// Its bit in the number that a session is opened with.
+impl From<Mode> for u32 {
+    fn from(value: Mode) -> u32
+        ensures { result ≡ mode_bit value }
+    {
+        match value {
+            Mode::UnionAsStruct => 1,
+            Mode::StrongArrays => 2,
+            Mode::Placing => 4,
+            Mode::NamesApart => 8,
+        }
+    }
+}
 
 // struct btf_header from hdr_len on; offsets count from the header's end.
 #[derive(Clone, Copy)]
@@ -75,11 +89,11 @@ fn strings_at(h: Header) -> u32
 }
 
 // Whether a mode is set.
-pub fn has_mode(modes: u32, mode: u32) -> bool
-    requires { 0 < mode }
-    ensures { result ≡ eqb (modes / mode % 2) 1 }
+#[tactic(auto, using(crate::proofs::header::Settings::some_bit))]
+pub fn has_mode(modes: u32, mode: Mode) -> bool
+    ensures { result ≡ eqb (modes / mode_bit mode % 2) 1 }
 {
-    modes / mode % 2 == 1
+    modes / u32::from(mode) % 2 == 1
 }
 
 // What the types of a table need of its header and settings.
@@ -89,10 +103,10 @@ pub fn btf_of(section: &[u8], pointer_size: u32, modes: u32, types: u32) -> Type
     let h = btf_header(section);
     TypeTable {
         ptr_sz: size_of_pointer(pointer_size),
-        union_as_struct: has_mode(modes, UNION_AS_STRUCT),
+        union_as_struct: has_mode(modes, Mode::UnionAsStruct),
         big_endian: is_big_endian(section),
-        strong_arrays: has_mode(modes, STRONG_ARRAYS),
-        placing: has_mode(modes, PLACING),
+        strong_arrays: has_mode(modes, Mode::StrongArrays),
+        placing: has_mode(modes, Mode::Placing),
         types: count_of_types(types),
         strs: strings_at(h),
     }

@@ -52,7 +52,7 @@ fn pass(i: &Index, st: &[u32], e: Entry, n: u32, from: u32) -> Option<u32>
 }
 
 // One step of the walk: one type more on it, or one less. None: there is a loop. (The stack is a slice and its height d: there is no
-// heap for a Vec.)
+// heap for a Vec. No type with the invariant `Inv`: where a loop is found it does not hold, so contracts would say it all the same.)
 fn turn(i: &Index, st: &mut [u32], stack: &mut [u32], d: usize) -> Option<usize>
     requires { Inv (graph_of i.now.table.head i.now.table.section.now i.now.start.now) st.old stack.old d × (0 < d) }
     ensures { Turned (graph_of i.now.table.head i.now.table.section.now i.now.start.now) st.old d st.new
@@ -104,7 +104,8 @@ fn walk(i: &Index, st: &mut [u32], stack: &mut [u32], x: u32) -> bool
     false
 }
 
-// (A `for` and no `any`: of a closure that writes what it captures a proof learns nothing about its answers.)
+// (A `for`: at `any`, tried, the check asks that `walk` may be called in whatever its calls before have left, and the library's
+// lemmas are of closures that change no capture.)
 fn scan(i: &Index, st: &mut [u32], stack: &mut [u32]) -> bool
     requires { Inv (graph_of i.now.table.head i.now.table.section.now i.now.start.now) st.old stack.old 0 }
     ensures { result ≡ has_loop (graph_of i.now.table.head i.now.table.section.now i.now.start.now) }

@@ -62,7 +62,8 @@ fn look(i: &Index, cell: &[Cell], z: u32) -> Cell
     }
 }
 
-// Gives the m types of the walk from y the answer.
+// Gives the m types of the walk from y the answer. (No type with the invariant `Rest`: within a walk, as at the start here, it does not
+// hold.)
 fn settle(i: &Index, cell: &mut [Cell], y: u32, m: u32, answer: Cell)
     requires { Settle (track_of i.now.table.head i.now.table.section.now i.now.start.now) y m answer cell.old y 0 }
     ensures { Rest (track_of i.now.table.head i.now.table.section.now i.now.start.now) cell.new }
@@ -109,7 +110,8 @@ fn ask(i: &Index, cell: &mut [Cell], y: u32) -> bool
     }
 }
 
-// (A `for` here and in `all`, and no `any`: of a closure that writes what it captures a proof learns nothing about its answers.)
+// (A `for` here and in `all`: at `any`, tried, the check asks that the calls may be made in whatever those before have left, and
+// the library's lemmas are of closures that change no capture.)
 fn asks_of(i: &Index, cell: &mut [Cell], x: u32) -> bool
     requires { Rest (track_of i.now.table.head i.now.table.section.now i.now.start.now) cell.old }
     ensures { Part i.now.table.head i.now.table.section.now i.now.start.now x cell.new result }

@@ -88,30 +88,24 @@ impl Area<'_> {
         Some(at + 12 + n)
     }
 
-    // The type area from a place to its end. (A `while`: the record says where the next one stands.)
+    // The type area from a place to its end. The last turn only asks whether that is reached: there is no type of its number.
     fn scan(&self, from: u32, start: &mut [u32]) -> Option<Counts>
         requires { (from ≤ self.now.end) × (self.now.end ≤ 16777216) }
         ensures { scan_out result start.new
             ≡ scan_p (section_word self.now.table.head self.now.table.section.now) self.now.str_len from self.now.end start.old }
     {
         let mut at = from;
-        let mut x: u32 = 1;
         let mut enumerators: u32 = 0;
-        while at < self.end {
-            if limit::MOST_RECORDS < x {
-                return None;
+        for types in 1..=limit::MOST_TYPES {
+            if self.end <= at {
+                return Some(Counts { types, enumerators });
             }
             let info = self.table.word((at as usize) + 4);
-            store(start, x as usize, Entry::new(at, kind_of(info)).word);
-            let next = self.next_record(at, info)?;
+            store(start, types as usize, Entry::new(at, kind_of(info)).word);
+            at = self.next_record(at, info)?;
             enumerators += enumerators_of(info);
-            at = next;
-            x += 1;
         }
-        Some(Counts {
-            types: x,
-            enumerators: enumerators,
-        })
+        None
     }
 }
 

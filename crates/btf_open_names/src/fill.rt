@@ -15,7 +15,8 @@ use btf_type_table::kind::{member_place, param_place, vlen_of};
 use btf_type_table::table::Table;
 use spec_type_table::Kind;
 
-// Entry x of the index, as it stands there.
+// Entry x of the index, as it stands there. (Not `Index::entry`: that one has 0 past the most types that pass cause 5, and what is left
+// is told of any index.)
 fn entry_of(start: &[u32], x: u32) -> Entry
     ensures { result.word ≡ get_or start.now x 0 }
 {
@@ -34,18 +35,18 @@ fn fill_places(i: &Index, work: &mut [u8])
 }
 
 // The place of value k of an enum.
-fn value_place(e: Entry, k: u32) -> u32
-    requires { k < 65536 }
+fn value_place(e: Entry, k: u16) -> u32
     ensures { result ≡ value_place (e.word % 32) (e.word / 32) k }
 {
     let at = e.place();
     match e.kind() {
-        Kind::Enum64 => member_place(at, k) as u32,
-        _ => param_place(at, k) as u32,
+        Kind::Enum64 => member_place(at, k as u32) as u32,
+        _ => param_place(at, k as u32) as u32,
     }
 }
 
-// The first word of an enumerator.
+// The first word of an enumerator. (Not `HolderWord::place`: that one takes holders of 32 bits, and here no test has shown yet that all
+// can be numbered.)
 fn enumerator_word(types: u32, e: u64) -> usize
     requires { e < 562949953421312 }
     ensures { result ≡ enumerator_word types e }
@@ -54,8 +55,8 @@ fn enumerator_word(types: u32, e: u64) -> usize
 }
 
 // The places of an enum's n values, which are the enumerators from `first` on.
-fn fill_values(types: u32, e: Entry, n: u32, first: u64, work: &mut [u8])
-    requires { (n < 65536) × (first < 281474976710656) }
+fn fill_values(types: u32, e: Entry, n: u16, first: u64, work: &mut [u8])
+    requires { first < 281474976710656 }
     ensures { work.new ≡ values_put types (e.word % 32) (e.word / 32) first work.old n }
 {
     for k in 0..n {
@@ -67,19 +68,19 @@ fn fill_values(types: u32, e: Entry, n: u32, first: u64, work: &mut [u8])
     }
 }
 
-// How many values the type with an entry of the index has.
-fn values_at(b: &Table, e: Entry) -> u32
+// How many values the type with an entry of the index has. (By the kind of the entry: `enumerators_of` of `records` goes by the record's.)
+fn values_at(b: &Table, e: Entry) -> u16
     ensures { result ≡ values_at b.now.head b.now.section.now e.word }
 {
     match e.kind() {
-        Kind::Enum | Kind::Enum64 => vlen_of(b.word((e.place() as usize) + 4)),
+        Kind::Enum | Kind::Enum64 => vlen_of(b.word((e.place() as usize) + 4)) as u16,
         _ => 0,
     }
 }
 
 // The type x, if it is an enum: its first enumerator, and its n values.
-fn fill_enum(types: u32, e: Entry, n: u32, x: u32, first: u64, work: &mut [u8])
-    requires { (n < 65536) × (first < 281474976710656) }
+fn fill_enum(types: u32, e: Entry, n: u16, x: u32, first: u64, work: &mut [u8])
+    requires { first < 281474976710656 }
     ensures { work.new ≡ enum_with types e.word n x first work.old }
 {
     match e.kind() {

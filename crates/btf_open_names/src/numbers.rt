@@ -15,41 +15,51 @@ fn add_if(c: u32, t: u32, n: u32) -> u32
     if n < t { c } else { c.saturating_add(1) }
 }
 
-// How many numbers on the list of a class are at most n. The list rises; what does not was not left by opening, and ends it.
-fn count_below(work: &[u8], types: u32, class: u32, n: u32) -> u32
-    ensures { result ≡ below (taken_at types work.now class) n }
-{
-    let mut c: u32 = 0;
-    let mut last: u32 = 0;
-    let mut x = cell::FIRST_TAKER.get(work, types, class);
-    // A `while`: a list in the lent work goes by its links. (std takes `successors` to be endless: a walk to its end is not proved.)
-    while last < x {
-        c = add_if(c, cell::TAKEN_NUMBER.get(work, types, x), n);
-        last = x;
-        x = cell::NEXT_TAKER.get(work, types, x);
-    }
-    c
+// The list of taken numbers of a class, in the work.
+#[derive(Clone, Copy)]
+struct Taken<'a> {
+    work: &'a [u8],
+    types: u32,
+    class: u32,
 }
 
-// k, and one more for each number on the list that is at most n.
-fn step(work: &[u8], types: u32, class: u32, k: u32, n: u32) -> u32
-    ensures { result ≡ capped (k + below (taken_at types work.now class) n) }
-{
-    k.saturating_add(count_below(work, types, class, n))
-}
-
-// The number of the k-th holder. Each turn passes over at least one more number.
-fn number_over(work: &[u8], types: u32, class: u32, k: u32) -> u32
-    ensures { result ≡ number_over (taken_at types work.now class) k }
-{
-    let mut n = k;
-    let mut m = step(work, types, class, k, k);
-    // A `while`: until a number is reached that no other takes.
-    while n < m {
-        n = m;
-        m = step(work, types, class, k, n);
+impl Taken<'_> {
+    // How many of the numbers are at most n. The list rises; what does not was not left by opening, and ends it.
+    fn count_below(&self, n: u32) -> u32
+        ensures { result ≡ below (taken_at self.now.types self.now.work.now self.now.class) n }
+    {
+        let mut c: u32 = 0;
+        let mut last: u32 = 0;
+        let mut x = cell::FIRST_TAKER.get(self.work, self.types, self.class);
+        // A `while` that ends because the links rise. (`successors` is endless: with `take` it would count besides, only to end.)
+        while last < x {
+            c = add_if(c, cell::TAKEN_NUMBER.get(self.work, self.types, x), n);
+            last = x;
+            x = cell::NEXT_TAKER.get(self.work, self.types, x);
+        }
+        c
     }
-    n
+
+    // k, and one more for each number that is at most n.
+    fn step(&self, k: u32, n: u32) -> u32
+        ensures { result ≡ capped (k + below (taken_at self.now.types self.now.work.now self.now.class) n) }
+    {
+        k.saturating_add(self.count_below(n))
+    }
+
+    // The number of the k-th holder. Each turn passes over at least one more number.
+    fn number_over(&self, k: u32) -> u32
+        ensures { result ≡ number_over (taken_at self.now.types self.now.work.now self.now.class) k }
+    {
+        let mut n = k;
+        let mut m = self.step(k, k);
+        // A `while`: until a number is reached that no other takes.
+        while n < m {
+            n = m;
+            m = self.step(k, n);
+        }
+        n
+    }
 }
 
 // One more holder of h's name: the number that it gets.
@@ -59,5 +69,6 @@ pub fn get_number(work: &mut [u8], types: u32, h: u32) -> u32
 {
     let class = cell::NAME_CLASS.get(work, types, h);
     let k = get_count(work, types, h);
-    number_over(work, types, class, k)
+    let taken = Taken { work, types, class };
+    taken.number_over(k)
 }

@@ -1,4 +1,5 @@
-// The work words: 16 for each type, at 16 times its id, then 8 for each enumerator.
+// The work words: 16 for each type, at 16 times its id, then 8 for each enumerator. Lists in them go by links, and 0 ends a list (the lent
+// work is all the memory there is). Words are constants and no enum: a word is found by adding its number, as its definition does.
 ghost use Rattle.std.specs.Prelude.{◌≡◌};
 ghost use Rattle.spec_bytes.specs.words.Words.{get_word, put_word, one_more};
 ghost use Rattle.spec_type_table.specs.Cells.{get_field, put_field, place_of, class_p, count_p, count_after, count_raised, with_more};
@@ -23,7 +24,8 @@ pub const FORWARD_EMITTED: u32 = 3;
 // 0 while its name has none.
 pub const NAME_VERSION: u32 = 4;
 
-// The first declaration tag on it; of a tag, the next on the same type.
+// The first declaration tag on it; of a tag, the next on the same type. (Fixed memory: the links of a list stand in the lent work,
+// and 0 ends it.)
 pub const FIRST_TAG: u32 = 9;
 
 pub const NEXT_TAG: u32 = 10;
@@ -65,7 +67,7 @@ pub const NAME_HOLDERS: HolderWord = HolderWord {
 };
 
 // The list of those whose names take a number of this name: at the class the first, at each the next and its number. All are 0
-// without the mode of names that cannot collide.
+// without the mode of names that cannot collide. (Fixed memory: links in the lent work, and 0 ends a list.)
 pub const FIRST_TAKER: HolderWord = HolderWord {
     of_type: 7,
     of_value: 3,

@@ -1,4 +1,6 @@
-// The entries that follow a record: members, and values of enums.
+// The entries that follow a record: members, and values of enums. What goes over them counts, `for k in 0..vlen`, and asks for entry k.
+// (No iterator of the repository's own: it would hold section, byte order, place and count, and be one for each of what is asked of an
+// entry: a member, a type, a name, a value of 32 or of 64 bits. Where a comma, a tag or an enumerator is counted, k is needed beside it.)
 ghost use Rattle.std.specs.Prelude.{◌≡◌, ◌+◌, ◌*◌};
 ghost use Rattle.spec_type_table.specs.Records.{section_word, member_at, param_at, member_of};
 

@@ -63,7 +63,8 @@ pub fn entries_of(t: BtfType) -> Entries
     }
 }
 
-// The place of member k; of an ENUM64's value k too.
+// The place of member k; of an ENUM64's value k too. (Two functions: one over the width would be called by a number where these say which
+// struct of the Linux page it is, and each is one line.)
 pub fn member_place(at: u32, k: u32) -> usize
     ensures { result ≡ member_at at k }
 {

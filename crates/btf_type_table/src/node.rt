@@ -1,6 +1,6 @@
 // The type of an id, and what ordering and emission see of it.
 ghost use Rattle.std.specs.Prelude.{◌≡◌};
-ghost use Rattle.spec_type_table.specs.Records.{void_record, record_by_id};
+ghost use Rattle.spec_type_table.specs.Records.{record_by_id};
 ghost use Rattle.spec_type_table.specs.Table.{type_of};
 ghost use Rattle.spec_c_dumper.specs.rules.Types.{node_of};
 ghost use Rattle.spec_type_table.specs.Nodes.{node_is};
@@ -18,27 +18,16 @@ pub struct TypeRef {
     pub t: BtfType,
 }
 
-fn void() -> BtfType
-    ensures { result ≡ void_record }
-{
-    BtfType {
-        at: 0,
-        name_off: 0,
-        info: 0,
-        type_id: 0,
-    }
-}
-
 impl Table<'_> {
     // The type of an id: void is 0, and so is what lies past the table.
     pub fn type_by_id(&self, work: &[u8], id: u32) -> BtfType
         ensures { result ≡ record_by_id self.now.head self.now.section.now work.now id }
     {
         if id == 0 {
-            return void();
+            return BtfType::default();
         }
         if self.head.types <= id {
-            return void();
+            return BtfType::default();
         }
         self.load_type(get_field(work, id, cell::PLACE))
     }

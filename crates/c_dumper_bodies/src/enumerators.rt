@@ -12,6 +12,7 @@ ghost use Rattle.c_dumper_bodies.specs.enumerators.Heads.{enum_head, value_head,
 use base_bytes::put::{put_byte, put_bytes, put_tabs};
 use base_bytes::refusal::Refusal;
 use base_keywords::table::{Word, put_word};
+use btf_type_table::node::TypeRef;
 use btf_type_table::table::Table;
 use c_dumper_name_versions::names::{put_name, put_sep_name, resolve_name, resolve_type_name};
 
@@ -43,13 +44,12 @@ pub fn emit_enum_head(
     work: &mut [u8],
     text: &mut [u8],
     at: usize,
-    id: u32,
-    name_off: u32,
+    x: TypeRef,
 ) -> Result<usize, Refusal>
     ensures { out_of result text.new work.new
-        ≡ put_said text.old (Ok at) (enum_head (work_naming b.now.head) id (str_at b.now.head b.now.section.now name_off) work.old) }
+        ≡ put_said text.old (Ok at) (enum_head (work_naming b.now.head) x.id (str_at b.now.head b.now.section.now x.t.name_off) work.old) }
 {
-    let name = resolve_type_name(b, work, id, name_off);
+    let name = resolve_type_name(b, work, x);
     let a = put_word(text, at, Word::Enum)?;
     put_sep_name(b, text, a, name)
 }

@@ -29,7 +29,7 @@ fn is_wide(t: BtfType) -> bool
     Kind::of(t.info) == Kind::Enum64
 }
 
-// The place of value k: a struct btf_enum64 or a struct btf_enum.
+// The place of value k: a struct btf_enum64 or a struct btf_enum. (No From: what it takes are three values.)
 fn value_place(values: Entries, wide: bool, k: u32) -> usize
     ensures { result ≡ value_at wide values.at k }
 {
@@ -125,7 +125,7 @@ pub fn emit_enum_def(
     if b.is_builtin(x.t.name_off) {
         return Ok(at);
     }
-    let a = emit_enum_head(b, work, text, at, x.id, x.t.name_off)?;
+    let a = emit_enum_head(b, work, text, at, x)?;
     let values = entries_of(x.t);
     if values.vlen == 0 {
         return Ok(a);

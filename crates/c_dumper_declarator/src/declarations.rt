@@ -25,7 +25,7 @@ pub use crate::declarations::members::emit_composite_def;
 use base_bytes::put::{put_byte, put_bytes};
 use base_bytes::refusal::Refusal;
 use base_keywords::table::{Word, put_word};
-use btf_type_table::kind::{entries_of, is_struct, kind_flag_of, param_place};
+use btf_type_table::kind::{entries_of, param_place};
 use btf_type_table::node::TypeRef;
 use btf_type_table::table::Table;
 use c_dumper_bodies::bodies::{
@@ -35,7 +35,7 @@ use c_dumper_bodies::bodies::{
 use c_dumper_bodies::chain::{Base, chain_base, kind_at, path_at};
 use c_dumper_bodies::modifiers::{emit_mods, put_qualifier, skip_mods};
 use c_dumper_name_versions::forwards::{emit_composite_fwd, emit_fwd_def};
-use c_dumper_name_versions::names::{Name, bare, emit_name};
+use c_dumper_name_versions::names::{Name, emit_name};
 use spec_type_table::{BtfType, Entries, Kind};
 
 // What is declared: the type that the chain starts from, the declared name, and the level of indentation.
@@ -176,21 +176,23 @@ fn emit_links(
     emit_name(b, text, p, d.name, rest.last_was_ptr)
 }
 
-// The chain goes on from a place with n entries.
-fn goes_on(at: usize, n: u32, last_was_ptr: bool) -> Stand
-    ensures { result ≡ record { at = at; rest = Some (record { n = n; last_was_ptr = last_was_ptr }) } }
-{
-    Stand {
-        at,
-        rest: Some(Rest { n, last_was_ptr }),
+impl Stand {
+    // The chain goes on from a place with n entries.
+    fn goes_on(at: usize, n: u32, last_was_ptr: bool) -> Stand
+        ensures { result ≡ record { at = at; rest = Some (record { n = n; last_was_ptr = last_was_ptr }) } }
+    {
+        Stand {
+            at,
+            rest: Some(Rest { n, last_was_ptr }),
+        }
     }
-}
 
-// The declared name stands, and nothing is left.
-fn named(at: usize) -> Stand
-    ensures { result ≡ record { at = at; rest = None } }
-{
-    Stand { at, rest: None }
+    // The declared name stands, and nothing is left.
+    fn named(at: usize) -> Stand
+        ensures { result ≡ record { at = at; rest = None } }
+    {
+        Stand { at, rest: None }
+    }
 }
 
 // Pops and prints the entry on top; one of no other kind that leads on is a type tag.
@@ -218,29 +220,29 @@ fn emit_entry(
     match kind {
         Kind::Ptr => {
             let a = put_star(text, at, c.last_was_ptr)?;
-            Ok(goes_on(a, n, true))
+            Ok(Stand::goes_on(a, n, true))
         }
         Kind::Array => {
             let nelems = b.array_nelems(t);
             let m = skip_mods(b, work, d.id, n);
             let a = emit_array(b, work, text, at, d, Rest { n: m, ..c }, below)?;
             let e = put_count(text, a, nelems)?;
-            Ok(named(e))
+            Ok(Stand::named(e))
         }
         Kind::Volatile | Kind::Const | Kind::Restrict => {
             let a = put_byte(text, at, b' ')?;
             let e = put_qualifier(text, a, kind)?;
-            Ok(goes_on(e, n, false))
+            Ok(Stand::goes_on(e, n, false))
         }
         Kind::FuncProto => {
             let a = emit_function(b, work, text, at, d, c, t, below)?;
-            Ok(named(a))
+            Ok(Stand::named(a))
         }
         _ => {
             let m = skip_mods(b, work, d.id, n);
             let a = emit_mods(b, work, text, at, d.id, n, m)?;
             let e = put_type_tag(b, text, a, t)?;
-            Ok(goes_on(e, m, false))
+            Ok(Stand::goes_on(e, m, false))
         }
     }
 }
@@ -295,11 +297,8 @@ fn emit_base(
         Kind::Int | Kind::Float => b.put_str(text, at, x.t.name_off),
         Kind::Struct | Kind::Union => emit_composite_word(b, work, text, at, x, lvl, below),
         Kind::Enum | Kind::Enum64 => emit_enum_word(b, work, text, at, x, lvl),
-        Kind::Fwd => {
-            let is_union = kind_flag_of(x.t.info);
-            emit_fwd_def(b, work, text, at, x.id, is_union, x.t.name_off)
-        }
-        Kind::Typedef => put_typedef_name(b, work, text, at, x.id, x.t.name_off),
+        Kind::Fwd => emit_fwd_def(b, work, text, at, x),
+        Kind::Typedef => put_typedef_name(b, work, text, at, x),
         Kind::Void | Kind::Unknown => put_word(text, at, Word::Void),
         _ => Ok(at),
     }
@@ -326,7 +325,7 @@ fn emit_composite_word(
     if b.is_empty(x.t.name_off) {
         return emit_composite_def(b, work, text, at, x, lvl, below);
     }
-    emit_composite_fwd(b, work, text, at, x.id, is_struct(x.t), x.t.name_off)
+    emit_composite_fwd(b, work, text, at, x)
 }
 
 // What stands before the brackets of an array: the name, or the chain that is left. (It ends as emit_proto does, by two calls; shared, they
@@ -432,8 +431,8 @@ fn emit_param(
     let type_id = b.word(p + 4);
     let d = Declarator {
         id: type_id,
-        name: bare(b.word(p)),
-        lvl: lvl,
+        name: Name::bare(b.word(p)),
+        lvl,
     };
     let a = put_comma(text, at, k)?;
     if is_any_more(params.vlen, k, type_id) {

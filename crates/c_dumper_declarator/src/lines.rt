@@ -12,7 +12,6 @@ use crate::typedefs::emit_typedef_def;
 use base_bytes::limit;
 use base_bytes::put::put_bytes;
 use base_bytes::refusal::Refusal;
-use btf_type_table::kind::{is_struct, kind_flag_of};
 use btf_type_table::node::TypeRef;
 use btf_type_table::table::Table;
 use c_dumper_bodies::enums::emit_enum_def;
@@ -47,8 +46,7 @@ pub fn emit_definition(
             put_line_end(text, a)
         }
         Kind::Fwd => {
-            let is_union = kind_flag_of(x.t.info);
-            let a = emit_fwd_def(b, work, text, at, x.id, is_union, x.t.name_off)?;
+            let a = emit_fwd_def(b, work, text, at, x)?;
             put_line_end(text, a)
         }
         _ => Ok(at),
@@ -72,7 +70,7 @@ pub fn emit_forward(
     }
     match Kind::of(x.t.info) {
         Kind::Struct | Kind::Union => {
-            let a = emit_composite_fwd(b, work, text, at, x.id, is_struct(x.t), x.t.name_off)?;
+            let a = emit_composite_fwd(b, work, text, at, x)?;
             put_line_end(text, a)
         }
         Kind::Typedef => {

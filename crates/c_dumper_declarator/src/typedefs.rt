@@ -29,7 +29,7 @@ pub fn emit_typedef_def(
         (work_naming b.now.head) (btf_of b.now.head b.now.section.now work.old) x.id
         (str_at b.now.head b.now.section.now x.t.name_off) x.t.type_id work.old) }
 {
-    let name = resolve_type_name(b, work, x.id, x.t.name_off);
+    let name = resolve_type_name(b, work, x);
     let d = Declarator {
         id: x.t.type_id,
         name,

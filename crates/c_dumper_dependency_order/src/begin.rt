@@ -3,7 +3,7 @@ ghost use Rattle.std.specs.Prelude.{◌≡◌};
 ghost use Rattle.c_dumper_dependency_order.specs.order_state.Work.{table_in};
 ghost use Rattle.c_dumper_dependency_order.specs.begin.Start.{limit_of, opened_by, is_known, is_passable, met_by};
 
-use crate::order_state::{Halted, Order, is_done, refused, strong};
+use crate::order_state::{Halted, Order, is_done};
 use crate::order_type::Orderer;
 use crate::ways::count;
 use base_bytes::refusal::Refusal;
@@ -17,7 +17,7 @@ impl Orderer<'_> {
     {
         match count(self.ceiling, o.made) {
             Ok(made) => Ok(Order { made, ..o }),
-            Err(c) => Err(refused(o, c)),
+            Err(c) => Err(o.refused(c)),
         }
     }
 
@@ -38,15 +38,15 @@ impl Orderer<'_> {
             (is_passable (table_in self.now.table.head self.now.table.section.now work.now) id has_ptr) o }
     {
         if !has_ptr {
-            return Err(refused(o, Refusal::Cycle));
+            return Err(o.refused(Refusal::Cycle));
         }
         let t = self.table.type_by_id(work, id);
         if !self.table.is_named(t) {
-            return Err(refused(o, Refusal::Cycle));
+            return Err(o.refused(Refusal::Cycle));
         }
         match Kind::of(t.info) {
-            Kind::Struct | Kind::Union => Ok(strong(o, false)),
-            _ => Err(refused(o, Refusal::Cycle)),
+            Kind::Struct | Kind::Union => Ok(o.strong(false)),
+            _ => Err(o.refused(Refusal::Cycle)),
         }
     }
 }

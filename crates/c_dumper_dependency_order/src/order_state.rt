@@ -8,7 +8,7 @@ use base_bytes::refusal::Refusal;
 use btf_type_table::cell;
 use btf_type_table::cell::{get_field, put_field};
 
-// How far ordering has come with a type, or emission. The Rust has an enum of three for each.
+// How far ordering has come with a type, or emission; the numbers of the marks in the work. The Rust has an enum of three for each.
 #[derive(Clone, Copy, PartialEq, Eq)]
 pub enum Mark {
     New,
@@ -16,12 +16,28 @@ pub enum Mark {
     Done,
 }
 
-// The marks as words of the work; any other word is a type that is new.
-const NEW: u32 = 0;
+impl From<Mark> for u32 {
+    #[inline]
+    fn from(mark: Mark) -> u32
+        ensures { result ≡ code (mark_is mark) }
+    {
+        mark as u32
+    }
+}
 
-const OPEN: u32 = 1;
-
-const DONE: u32 = 2;
+impl From<u32> for Mark {
+    // Any other word is a type that is new.
+    #[inline]
+    fn from(word: u32) -> Mark
+        ensures { mark_is result ≡ mark_of word }
+    {
+        match word {
+            2 => Mark::Done,
+            1 => Mark::Open,
+            _ => Mark::New,
+        }
+    }
+}
 
 // What ordering has come to: the calls made under a ceiling, the length of the order list, and whether the last way was strong.
 #[derive(Clone, Copy)]
@@ -29,6 +45,24 @@ pub struct Order {
     pub made: u64,
     pub len: u32,
     pub is_strong: bool,
+}
+
+impl Order {
+    // The same after a way that was strong, or was not.
+    pub fn strong(self, is_strong: bool) -> Order
+        ensures { result ≡ strong_of self is_strong }
+    {
+        Order { is_strong, ..self }
+    }
+
+    pub fn refused(self, c: Refusal) -> Halted
+        ensures { result ≡ refused_by self c }
+    {
+        Halted {
+            refusal: c,
+            made: self.made,
+        }
+    }
 }
 
 // What stopped it: a refusal, and the calls made by then.
@@ -43,11 +77,7 @@ pub struct Halted {
 pub fn get_mark(work: &[u8], id: u32, word: u32) -> Mark
     ensures { mark_is result ≡ mark_of (get_field work.now id word) }
 {
-    match get_field(work, id, word) {
-        DONE => Mark::Done,
-        OPEN => Mark::Open,
-        _ => Mark::New,
-    }
+    Mark::from(get_field(work, id, word))
 }
 
 #[inline]
@@ -60,12 +90,7 @@ pub fn is_done(work: &[u8], id: u32, word: u32) -> bool
 pub fn set_mark(work: &mut [u8], id: u32, word: u32, mark: Mark)
     ensures { work.new ≡ put_field work.old id word (code (mark_is mark)) }
 {
-    let state = match mark {
-        Mark::New => NEW,
-        Mark::Open => OPEN,
-        Mark::Done => DONE,
-    };
-    put_field(work, id, word, state)
+    put_field(work, id, word, u32::from(mark))
 }
 
 // The id at a place of the order list.
@@ -79,19 +104,4 @@ pub fn set_listed(work: &mut [u8], k: u32, id: u32)
     ensures { work.new ≡ put_field work.old k 11 id }
 {
     put_field(work, k, cell::ORDER_SLOT, id)
-}
-
-pub fn strong(o: Order, is_strong: bool) -> Order
-    ensures { result ≡ strong_of o is_strong }
-{
-    Order { is_strong, ..o }
-}
-
-pub fn refused(o: Order, c: Refusal) -> Halted
-    ensures { result ≡ refused_by o c }
-{
-    Halted {
-        refusal: c,
-        made: o.made,
-    }
 }

@@ -12,10 +12,10 @@ ghost use Rattle.c_dumper_dependency_order.specs.leaders.Leads.{order_kept, kept
 ghost use Rattle.c_dumper_dependency_order.specs.leaders.Leads.{lead_words};
 
 use crate::entries::Held;
-use crate::finish::{finish, finish_typedef};
-use crate::leaders::{Lead, Way, inside};
-use crate::order_state::{Halted, Mark, Order, get_mark, refused, set_mark, strong};
-use crate::ways::{is_passed, is_weak_past};
+use crate::finish::{finish, finish_typedef, mark_ordered};
+use crate::leaders::Lead;
+use crate::order_state::{Halted, Mark, Order, get_mark, set_mark};
+use crate::ways::{Step, is_passed, is_weak_past};
 use base_bytes::refusal::Refusal;
 use btf_type_table::cell;
 use btf_type_table::kind::entries_of;
@@ -31,7 +31,7 @@ pub struct Orderer<'a> {
 }
 
 impl Orderer<'_> {
-    // v: what is being ordered around the call. A request without a list of line origins lends no leaders.
+    // A request without a list of line origins lends no leaders.
     #[cycle(order_type)]
     pub fn order_type(
         &self,
@@ -39,22 +39,23 @@ impl Orderer<'_> {
         leads: &mut [Lead],
         o: Order,
         id: u32,
-        has_ptr: bool,
-        left: u32,
-        v: Way,
+        step: Step,
     ) -> Result<Order, Halted>
-        ensures { kept_out result work.new (lead_words leads.new) ≡ order_kept (limit_of self.now.ceiling) v left
+        ensures { kept_out result work.new (lead_words leads.new) ≡ order_kept (limit_of self.now.ceiling) step.way step.left
             (table_in self.now.table.head self.now.table.section.now work.old)
-            (kept_of o work.old (lead_words leads.old)) id has_ptr o.made }
+            (kept_of o work.old (lead_words leads.old)) id step.has_ptr o.made }
     {
-        if left == 0 {
-            return Err(refused(o, Refusal::TooDeep));
+        if step.left == 0 {
+            return Err(o.refused(Refusal::TooDeep));
         }
         let p = self.count_call(o)?;
         match get_mark(work, id, cell::ORDER_STATE) {
-            Mark::Done => Ok(strong(p, true)),
-            Mark::Open => self.meet(work, p, id, has_ptr),
-            Mark::New => self.order_new(work, leads, p, id, has_ptr, left - 1, v),
+            Mark::Done => Ok(p.strong(true)),
+            Mark::Open => self.meet(work, p, id, step.has_ptr),
+            Mark::New => {
+                let left = step.left - 1;
+                self.order_new(work, leads, p, id, Step { left, ..step })
+            }
         }
     }
 
@@ -67,18 +68,16 @@ impl Orderer<'_> {
         leads: &mut [Lead],
         o: Order,
         id: u32,
-        has_ptr: bool,
-        left: u32,
-        v: Way,
+        step: Step,
     ) -> Result<Order, Halted>
-        ensures { kept_out result work.new (lead_words leads.new) ≡ order_kept (limit_of self.now.ceiling) v left
+        ensures { kept_out result work.new (lead_words leads.new) ≡ order_kept (limit_of self.now.ceiling) step.way step.left
             (table_in self.now.table.head self.now.table.section.now work.old)
-            (kept_of o work.old (lead_words leads.old)) id has_ptr o.made }
+            (kept_of o work.old (lead_words leads.old)) id step.has_ptr o.made }
     {
-        if self.is_known(work, o, id, left) {
-            return Ok(strong(self.count_call(o)?, true));
+        if self.is_known(work, o, id, step.left) {
+            return Ok(self.count_call(o)?.strong(true));
         }
-        self.order_type(work, leads, o, id, has_ptr, left, v)
+        self.order_type(work, leads, o, id, step)
     }
 
     // An id that is not ordered yet.
@@ -89,43 +88,40 @@ impl Orderer<'_> {
         leads: &mut [Lead],
         o: Order,
         id: u32,
-        weak: bool,
-        left: u32,
-        v: Way,
+        step: Step,
     ) -> Result<Order, Halted>
-        ensures { kept_out result work.new (lead_words leads.new) ≡ fresh_kept (limit_of self.now.ceiling) v
-            (table_in self.now.table.head self.now.table.section.now work.old) left
-            (kept_of o work.old (lead_words leads.old)) id weak o.made }
+        ensures { kept_out result work.new (lead_words leads.new) ≡ fresh_kept (limit_of self.now.ceiling) step.way
+            (table_in self.now.table.head self.now.table.section.now work.old) step.left
+            (kept_of o work.old (lead_words leads.old)) id step.has_ptr o.made }
     {
         let t = self.table.type_by_id(work, id);
         match self.table.node_of(t) {
-            Node::Ignored => Ok(strong(o, false)),
-            Node::Plain => Ok(finish(work, leads, o, id, false, false, v)),
+            Node::Ignored => Ok(o.strong(false)),
+            Node::Plain => Ok(mark_ordered(work, o, id, false)),
             Node::Enum | Node::Fwd => {
                 let named = self.table.is_named(t);
-                Ok(finish(work, leads, o, id, named, true, v))
+                Ok(finish(work, leads, o, id, named, step.way))
             }
             Node::Array(t) => {
-                let past = is_weak_past(self.table.head, weak);
-                self.order_next(work, leads, o, t, past, left, v)
+                let has_ptr = is_weak_past(self.table.head, step.has_ptr);
+                self.order_next(work, leads, o, t, Step { has_ptr, ..step })
             }
-            Node::Through(t) => self.order_next(work, leads, o, t, weak, left, v),
+            Node::Through(t) => self.order_next(work, leads, o, t, step),
             Node::Ptr(t) => {
-                let r = self.order_next(work, leads, o, t, true, left, v)?;
-                Ok(finish(work, leads, r, id, false, r.is_strong, v))
+                let r = self.order_next(work, leads, o, t, step.weak())?;
+                Ok(mark_ordered(work, r, id, r.is_strong))
             }
             Node::Typedef(t) => {
-                let u = inside(v, id);
-                let r = self.order_type(work, leads, o, t, weak, left, u)?;
-                Ok(finish_typedef(work, leads, r, id, weak, v))
+                let r = self.order_type(work, leads, o, t, step.inside(id))?;
+                Ok(finish_typedef(work, leads, r, id, step))
             }
             Node::Proto(res, params) => {
-                let r = self.order_type(work, leads, o, res, weak, left, v)?;
-                self.order_entries(work, leads, r, Held::Params(params), weak, left, v)
+                let r = self.order_type(work, leads, o, res, step)?;
+                self.order_entries(work, leads, r, Held::Params(params), step)
             }
             Node::Composite(_) => {
                 let x = TypeRef { id, t };
-                self.order_composite(work, leads, o, x, weak, left, v)
+                self.order_composite(work, leads, o, x, step)
             }
         }
     }
@@ -138,28 +134,26 @@ impl Orderer<'_> {
         leads: &mut [Lead],
         o: Order,
         x: TypeRef,
-        has_ptr: bool,
-        left: u32,
-        v: Way,
+        step: Step,
     ) -> Result<Order, Halted>
-        ensures { kept_out result work.new (lead_words leads.new) ≡ enter_kept (limit_of self.now.ceiling) v
-            (table_in self.now.table.head self.now.table.section.now work.old) left
-            (kept_of o work.old (lead_words leads.old)) x.id has_ptr
+        ensures { kept_out result work.new (lead_words leads.new) ≡ enter_kept (limit_of self.now.ceiling) step.way
+            (table_in self.now.table.head self.now.table.section.now work.old) step.left
+            (kept_of o work.old (lead_words leads.old)) x.id step.has_ptr
             (is_named (type_of self.now.table.head self.now.table.section.now x.t))
             (member_ids self.now.table.head self.now.table.section.now (entries_of x.t)) o.made }
     {
         let named = self.table.is_named(x.t);
-        if is_passed(named, has_ptr) {
-            return Ok(strong(o, false));
+        if is_passed(named, step.has_ptr) {
+            return Ok(o.strong(false));
         }
         set_mark(work, x.id, cell::ORDER_STATE, Mark::Open);
-        let u = inside(v, x.id);
-        let members = entries_of(x.t);
-        let r = self.order_entries(work, leads, o, Held::Members(members), false, left, u)?;
-        Ok(finish(work, leads, r, x.id, named, true, v))
+        let members = Held::Members(entries_of(x.t));
+        let r = self.order_entries(work, leads, o, members, step.to_members(x.id))?;
+        Ok(finish(work, leads, r, x.id, named, step.way))
     }
 
-    // The types of entries in order; the way is strong if one of them was, or what came before.
+    // The types of entries in order; the way is strong if one of them was, or what came before. (A `for`: of a closure that writes
+    // the work try_fold's contract tells no value after the calls.)
     #[cycle(order_type)]
     fn order_entries(
         &self,
@@ -167,22 +161,20 @@ impl Orderer<'_> {
         leads: &mut [Lead],
         o: Order,
         entries: Held,
-        has_ptr: bool,
-        left: u32,
-        v: Way,
+        step: Step,
     ) -> Result<Order, Halted>
         ensures { kept_out result work.new (lead_words leads.new) ≡ each_within
-            (way_kept (limit_of self.now.ceiling) v
-            (table_in self.now.table.head self.now.table.section.now work.old) left has_ptr)
+            (way_kept (limit_of self.now.ceiling) step.way
+            (table_in self.now.table.head self.now.table.section.now work.old) step.left step.has_ptr)
             (entry_ids self.now.table.head self.now.table.section.now entries)
             (kept_of o work.old (lead_words leads.old)) o.is_strong o.made }
     {
         let mut r = o;
         for k in 0..entries.count() {
             let t = entries.entry_type(&self.table, k);
-            let p = self.order_next(work, leads, r, t, has_ptr, left, v)?;
+            let p = self.order_next(work, leads, r, t, step)?;
             // `|`: by `||` the proof would go two ways to one equation.
-            r = strong(p, r.is_strong | p.is_strong);
+            r = p.strong(r.is_strong | p.is_strong);
         }
         Ok(r)
     }

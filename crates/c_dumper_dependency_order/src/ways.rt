@@ -1,10 +1,55 @@
-// Small decisions of ordering, with no call of it: which ways are weak, which composites are passed over, and what one more call
-// comes to under a ceiling.
-ghost use Rattle.std.specs.Prelude.{◌≡◌, not, ◌&&◌};
+// Small decisions of ordering, with no call of it: how it comes to a type, which ways are weak, which composites are passed over, and
+// what one more call comes to under a ceiling.
+ghost use Rattle.std.specs.Prelude.{◌≡◌, not, ◌&&◌, true, false};
+ghost use Rattle.c_dumper_dependency_order.specs.leaders.Leads.{inside_of};
 ghost use Rattle.c_dumper_dependency_order.specs.ways.Idle.{counted};
 
+use crate::leaders::Way;
 use base_bytes::refusal::Refusal;
 use spec_type_table::TypeTable;
+
+// How ordering comes to a type: whether behind a pointer, how deep it may still go, and what is being ordered around it.
+#[derive(Clone, Copy)]
+pub struct Step {
+    pub has_ptr: bool,
+    pub left: u32,
+    pub way: Way,
+}
+
+impl Step {
+    // To what is behind a pointer: a weak way.
+    #[inline]
+    pub fn weak(self) -> Step
+        ensures { result ≡ record { has_ptr = true; left = self.left; way = self.way } }
+    {
+        Step {
+            has_ptr: true,
+            ..self
+        }
+    }
+
+    // To what a typedef names.
+    #[inline]
+    pub fn inside(self, id: u32) -> Step
+        ensures { result ≡ record { has_ptr = self.has_ptr; left = self.left; way = inside_of self.way id } }
+    {
+        Step {
+            way: self.way.inside(id),
+            ..self
+        }
+    }
+
+    // To the members of a composite: a strong way.
+    #[inline]
+    pub fn to_members(self, id: u32) -> Step
+        ensures { result ≡ record { has_ptr = false; left = self.left; way = inside_of self.way id } }
+    {
+        Step {
+            has_ptr: false,
+            ..self.inside(id)
+        }
+    }
+}
 
 // The way past an array is weak if the way to it was; strong arrays forget that.
 pub fn is_weak_past(b: TypeTable, has_ptr: bool) -> bool

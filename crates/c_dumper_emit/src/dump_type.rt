@@ -22,6 +22,7 @@ use btf_type_table::table::Table;
 use c_dumper_dependency_order::leaders::{Lead, Way};
 use c_dumper_dependency_order::order_state::{Mark, Order, get_mark};
 use c_dumper_dependency_order::order_type::Orderer;
+use c_dumper_dependency_order::ways::Step;
 use spec_type_table::Kind;
 
 // A request for an id that is ordered, or is a function, a variable, a section or a tag, does nothing.
@@ -43,7 +44,7 @@ pub fn is_idle(b: &Table, work: &[u8], id: u32) -> bool
 }
 
 // The requested id, which request of the call it is, and whether the call is lent a list of entries. Without one the list and the
-// leaders are empty slices.
+// leaders are empty slices: an Option of them, lent `&mut`, would be lent anew in each function of the walk.
 #[derive(Clone, Copy)]
 pub struct Request {
     pub req: u32,
@@ -83,12 +84,17 @@ pub fn dump_type(
         len: 0,
         is_strong: false,
     };
-    let v = Way {
+    let way = Way {
         inner: q.req,
         lead: q.req,
         turn: q.turn,
     };
-    let r = match o.order_type(work, leads, start, q.req, false, limit::MOST_CALLS, v) {
+    let step = Step {
+        has_ptr: false,
+        left: limit::MOST_CALLS,
+        way,
+    };
+    let r = match o.order_type(work, leads, start, q.req, step) {
         Ok(r) => r,
         Err(h) => {
             return Dumped {

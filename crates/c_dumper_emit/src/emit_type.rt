@@ -1,5 +1,6 @@
 // Emission: which lines a listed id brings, and their order; each with its entry where the call is lent a list. The steps that go on to
-// no other id are in steps.
+// no other id are in steps. (IsLoaded is asked by three: the work, which is written here, tells where an id's record stands, so no type
+// can say it.)
 ghost use Rattle.std.specs.Prelude.{◌≡◌, not, ◌&&◌, eqb, ℕ, Ok};
 ghost use Rattle.spec_c_dumper.specs.rules.Machine.{obind, eeach};
 ghost use Rattle.spec_c_dumper.specs.rules.Order.{is_done};
@@ -32,8 +33,8 @@ fn is_emitted(work: &[u8], id: u32, left: u32) -> bool
 }
 
 impl Emission<'_> {
-    // cont is the composite or typedef that is being emitted around id, or 0 at the top. It stays a number: the top of the definitions
-    // and the table's void share 0, and no composite or typedef has id 0; an Option could be Some(0), of which the definitions say nothing.
+    // cont is the composite or typedef that is being emitted around id, or 0 at the top: a number, as in the Rust (`cont_id`) and in the
+    // definition of emission.
     #[cycle(emit_type)]
     pub fn emit_type(
         &self,
@@ -160,8 +161,8 @@ impl Emission<'_> {
         Ok(a)
     }
 
-    // An enum is defined at the top only; a forward is printed wherever it is met. The three lines that define and mark are those of
-    // end_composite too: the entries differ, and one function of both would have a contract as long as theirs.
+    // An enum is defined at the top only; a forward is printed wherever it is met (`fwd` is the flag of the node in the rule). The three
+    // lines that define and mark are those of end_composite too: the entries differ, and one function would have a contract as long.
     fn emit_leaf(
         &self,
         work: &mut [u8],

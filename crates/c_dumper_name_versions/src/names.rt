@@ -2,5 +2,5 @@
 mod versions;
 
 pub use crate::names::versions::{
-    Name, bare, emit_name, is_blank, put_name, put_sep_name, resolve_name, resolve_type_name,
+    Name, emit_name, is_blank, put_name, put_sep_name, resolve_name, resolve_type_name,
 };

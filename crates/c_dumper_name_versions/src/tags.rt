@@ -5,6 +5,7 @@ ghost use Rattle.spec_bytes.specs.text.Placed.{put_out, put_text};
 ghost use Rattle.base_keywords.specs.table.Fixed.{tag_name};
 ghost use Rattle.spec_c_dumper.specs.rules.Decl.{attribute, decl_tag, decl_tags};
 ghost use Rattle.spec_type_table.specs.Names.{str_at};
+ghost use Rattle.spec_type_table.specs.Records.{flag_of};
 ghost use Rattle.spec_type_table.specs.Table.{btf_of};
 
 use base_bytes::put::put_bytes;
@@ -15,7 +16,7 @@ use btf_type_table::cell::get_field;
 use btf_type_table::escape::put_escaped;
 use btf_type_table::kind::kind_flag_of;
 use btf_type_table::table::Table;
-use spec_type_table::Kind;
+use spec_type_table::{BtfType, Kind};
 
 // The component index, in a section, of a tag that is on the whole type: -1.
 const WHOLE_TYPE: u32 = u32::MAX;
@@ -29,21 +30,22 @@ fn put_tag_name(text: &mut [u8], at: usize, is_decl: bool) -> Result<usize, Refu
     put_word(text, at, Word::TypeTag)
 }
 
-// What a tag prints: its name as an attribute of its own, or in the attribute of its kind.
+// What a tag prints: its name as an attribute of its own, or in the attribute of its kind. (`is_decl` is told, not read from t:
+// put_type_tag promises its word for each record, of whatever kind.)
 pub fn put_attribute(
     b: &Table,
     text: &mut [u8],
     at: usize,
-    is_attr: bool,
+    t: BtfType,
     is_decl: bool,
-    name_off: u32,
 ) -> Result<usize, Refusal>
     ensures { put_out result text.new
-        ≡ put_text text.old (Ok at) (whole (attribute is_attr (tag_name is_decl) (str_at b.now.head b.now.section.now name_off))) }
+        ≡ put_text text.old (Ok at) (whole
+        (attribute (flag_of t.info) (tag_name is_decl) (str_at b.now.head b.now.section.now t.name_off))) }
 {
     let a = put_word(text, at, Word::AttributeStart)?;
-    let name = b.get_btf_str(name_off);
-    if is_attr {
+    let name = b.get_btf_str(t.name_off);
+    if kind_flag_of(t.info) {
         let c = put_bytes(text, a, name)?;
         return put_bytes(text, c, b"))");
     }
@@ -73,7 +75,7 @@ fn emit_decl_tag(
     if b.extra_word(t) != comp_idx {
         return Ok(at);
     }
-    put_attribute(b, text, at, kind_flag_of(t.info), true, t.name_off)
+    put_attribute(b, text, at, t, true)
 }
 
 // The tags of a type with a component index, in the order of their ids. The list
@@ -94,7 +96,8 @@ fn emit_tag_list(
     let mut p = at;
     let mut last: u32 = 0;
     let mut tag = get_field(work, id, cell::FIRST_TAG);
-    // A `while`: a list in the lent work goes by its links. (std takes `successors` to be endless: a walk to its end is not proved.)
+    // A `while`: a list in the lent work goes by its links. (Not `successors`: `for` asks that what remains is finite, and std says
+    // of that one that it is endless.)
     while last < tag {
         if b.head.types <= tag {
             return Ok(p);

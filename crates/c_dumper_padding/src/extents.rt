@@ -134,15 +134,13 @@ pub fn extent_of(b: &Table, work: &[u8], t: BtfType, body: Body) -> Result<Exten
         ≡ extent_of (btf_of b.now.head b.now.section.now work.now) body.in_struct body.packed no_extent
         (members_of b.now.head b.now.section.now t) }
 {
-    let mut x = Extent {
+    let start = Extent {
         last: 0,
         fits: true,
     };
-    for k in 0..vlen_of(t.info) {
-        let m = b.load_member(t, k);
-        x = next_member(b, work, body, x, m)?;
-    }
-    Ok(x)
+    (0..vlen_of(t.info))
+        .map(|k| b.load_member(t, k))
+        .try_fold(start, |x, m| next_member(b, work, body, x, m))
 }
 
 fn size_fits(body: Body, a: u32, last: u32, bits: u32) -> bool

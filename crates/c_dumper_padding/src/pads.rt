@@ -11,6 +11,7 @@ use base_bytes::put::{put_byte, put_bytes, put_decimal, put_tabs};
 use base_bytes::refusal::Refusal;
 use base_keywords::table::{Word, put_word};
 
+// (The word of a unit is asked for here alone.)
 fn put_unit(text: &mut [u8], at: usize, unit: Unit) -> Result<usize, Refusal>
     ensures { put_out result text.new ≡ put_text text.old (Ok at) (whole (unit_word (unit_of unit))) }
 {

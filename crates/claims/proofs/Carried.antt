@@ -76,11 +76,6 @@ module _ (p modes : ℕ) (s : List ℕ) (n : ℕ) (y : Bytes s) (ok : opening_nu
 
 -- ---- the calls
 
--- in the words of two crates
-abbrev aid_of : Aid → mixed.Aid
-aid_of (ceiling k) = mixed.ceiling k
-aid_of (list l) = mixed.list l
-
 ones_same : (room k x : ℕ) → ones_from room k x ≡ singles room k (ids_from k x)
 unfolding ones_from singles ids_from
 ones_same room zero x = refl

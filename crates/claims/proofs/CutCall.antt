@@ -8,8 +8,8 @@ use mathlib.Core.Logic.{◌⊎◌, inl, inr}
 use lib.ListN.{length, drop}
 use lib.Dec.{eqb, ltb}
 use borrow.Author.Tests.{eq-eqb, ltb-false}
+use Rattle.std.proofs.lemmas.Bool.{cases_lt}
 use Rattle.spec_bytes.specs.words.Words.{words}
-use Rattle.spec_bytes.proofs.words.Laws.{le_or_lt}
 use Rattle.spec_opening.specs.Table.{types_of}
 use Rattle.spec_opening.specs.Causes.{cause2, cause3, cause4, cause5, cause6, first_of, opening_number}
 use Rattle.spec_opening.proofs.Order.{none_first, sound_none}
@@ -101,9 +101,9 @@ closed_cut S s o = ap (λ (b : Bool). (b && eqb S.section_len (length s)) && pas
 
 -- a request keeps the length of the text slice, and its text lies inside
 pub room : (S : Session) (s w t : List ℕ) (x : ℕ) → S.text_len ≤ length t → (length (type_call S s w t x).text ≡ length t) × ((type_call S s w t x).session.text_len ≤ length t)
-room S s w t x l = go (is_current S (length s) (length w) (length t)) refl (le_or_lt S.types x)
+room S s w t x l = go (is_current S (length s) (length w) (length t)) refl (cases_lt x S.types)
   where
-    go : (q : Bool) → is_current S (length s) (length w) (length t) ≡ q → (S.types ≤ x) ⊎ (x < S.types) → (length (type_call S s w t x).text ≡ length t) × ((type_call S s w t x).session.text_len ≤ length t)
-    go true e (inr k) = let r = type_current S s w t x e k in (r.length_kept, r.fits)
-    go true e (inl k) = let r = type_not_below S s w t x e k in (ap (λ (c : Call). length c.text) r, subst (λ (c : Call). c.session.text_len ≤ length t) (sym r) l)
+    go : (q : Bool) → is_current S (length s) (length w) (length t) ≡ q → (x < S.types) ⊎ (S.types ≤ x) → (length (type_call S s w t x).text ≡ length t) × ((type_call S s w t x).session.text_len ≤ length t)
+    go true e (inl k) = let r = type_current S s w t x e k in (r.length_kept, r.fits)
+    go true e (inr k) = let r = type_not_below S s w t x e k in (ap (λ (c : Call). length c.text) r, subst (λ (c : Call). c.session.text_len ≤ length t) (sym r) l)
     go false e k = let r = type_not_current S s w t x e in (ap (λ (c : Call). length c.text) r, subst (λ (c : Call). c.session.text_len ≤ length t) (sym r) l)

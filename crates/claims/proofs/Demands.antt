@@ -43,6 +43,7 @@ use Rattle.spec_c_calls.specs.Exports.{Export, export_of}
 use Rattle.proof_calls.specs.calls_for_c.Claims as for-c
 use Rattle.proof_calls.proofs.calls_for_c.Claims.{delivered_c}
 use Rattle.spec_opening.specs.Described.{table_in}
+use Rattle.spec_cut.proofs.reopened.Reopened.{run_more}
 use Rattle.claims.specs.Demand1.{Numbered, Demand1}
 use Rattle.claims.specs.Calls.{Calls, ids_in, singles, Lent, made, After, opened, then_one, then_all, then_list}
 use Rattle.claims.specs.Demand2.{Tells, Eleven, Demand2, Closed}
@@ -52,12 +53,6 @@ use Rattle.claims.specs.Ours.{on_session, for_c}
 use Rattle.proof_calls.proofs.described.Table.{over_described, described_wf}
 use Rattle.claims.proofs.Opens.{numbered}
 use Rattle.claims.proofs.Names.{taken, plain_are, passed_are, same_text, next_number_lem, next_text, same_open}
-
--- one request more
-run_more : {M : Type 0} (X : Machine M) (T : Table) (rs : List Req) (r : Req) (S : Sess M) → run X T (rs ++ (r ∷ [])) S ≡ serve X T (run X T rs S) r
-unfolding run
-run_more X T [] r S = refl
-run_more X T (q ∷ rs) r S = run_more X T rs r (serve X T S q)
 
 -- ---- any calls
 
@@ -168,10 +163,6 @@ unfolding claims.singles_for singles
 singles_same room zero ids = refl
 singles_same room (suc k) [] = refl
 singles_same room (suc k) (id ∷ ids) = ap (λ (l : List Req). one room id ∷ l) (singles_same room k ids)
-
-ids_same : (b : List ℕ) → calls.ids_in b ≡ ids_in b
-unfolding calls.ids_in ids_in
-ids_same b = refl
 
 -- ---- the calls on a session
 

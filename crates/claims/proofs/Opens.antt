@@ -3,14 +3,14 @@
 use Prim.Native.Nat.{ℕ, zero, suc, ◌≤◌, ◌<◌}
 use native.Mathlib.Omega.{arith}
 use mathlib.Core.Path.{◌≡◌, refl, sym, ◌∙◌, ap, subst}
-use mathlib.Core.Bool.{Bool, true, false, not, true≢false}
+use mathlib.Core.Bool.{Bool, true, false, true≢false}
 use mathlib.Core.List.Memᴰ
 use mathlib.Core.List.{List, [], ◌∷◌, Memᴰ}
 use mathlib.Core.Logic.{◌⊎◌, inl, inr}
 use lib.ListN.{length, get_or-eq_default}
 use lib.Dec.{eqb}
-use borrow.Author.Tests.{eqb-true, eq-eqb}
-use Rattle.spec_bytes.proofs.words.Laws.{le_or_lt}
+use borrow.Author.Tests.{eqb-true, eq-eqb, not-true, not-false, both_ways}
+use Rattle.std.proofs.lemmas.Bool.{cases_lt}
 use Rattle.spec_linux_btf.specs.Documentation.{Described, described}
 use Rattle.spec_linux_btf.specs.Reading.{Bytes}
 use Rattle.spec_linux_btf.specs.Fields.{kind_in}
@@ -78,11 +78,11 @@ module _ (p : ℕ) (s : List ℕ) (y : Bytes s) (h : header_sound s ≡ true) (t
 
   kind_of : (x : ℕ) → Kind x
   kind_of zero = neither known.zero_kind refl
-  kind_of (suc i) = go (le_or_lt (length ts) i)
+  kind_of (suc i) = go (cases_lt i (length ts))
     where
-      go : (length ts ≤ i) ⊎ (i < length ts) → Kind (suc i)
-      go (inl q) = neither (kind_out c start (suc i) (omega (arith, known.count, q))) (ap kind_number (get_or-eq_default ts void_type q))
-      go (inr q) = same (known.kind i q ∙ kind_number_lem (type_of ts (suc i)))
+      go : (i < length ts) ⊎ (length ts ≤ i) → Kind (suc i)
+      go (inl q) = same (known.kind i q ∙ kind_number_lem (type_of ts (suc i)))
+      go (inr q) = neither (kind_out c start (suc i) (omega (arith, known.count, q))) (ap kind_number (get_or-eq_default ts void_type q))
 
   -- of kinds without 0 and 7
   module _ (l : List ℕ) (no_0 : is_kind_among l 0 ≡ false) (no_7 : is_kind_among l 7 ≡ false) where
@@ -115,11 +115,11 @@ module _ (p : ℕ) (s : List ℕ) (y : Bytes s) (h : header_sound s ≡ true) (t
       go (same a) = a ∙ e
 
   inside : (x k : ℕ) → k < followed_count c s start x → x < type_count c
-  inside x k l = go (le_or_lt (type_count c) x)
+  inside x k l = go (cases_lt x (type_count c))
     where
-      go : (type_count c ≤ x) ⊎ (x < type_count c) → x < type_count c
-      go (inl q) = absurd (omega (arith, l, followed_none c s start x q))
-      go (inr q) = q
+      go : (x < type_count c) ⊎ (type_count c ≤ x) → x < type_count c
+      go (inl q) = q
+      go (inr q) = absurd (omega (arith, l, followed_none c s start x q))
 
   all : types_of s ≡ type_count c
   unfolding types_of
@@ -220,17 +220,6 @@ module _ (p : ℕ) (s : List ℕ) (y : Bytes s) (h : header_sound s ≡ true) (t
 
 -- ---- the number
 
-negated : (b : Bool) → not b ≡ true → b ≡ false
-negated true e = absurd (true≢false (sym e))
-negated false e = refl
-
-unnegated : (b : Bool) → not b ≡ false → b ≡ true
-unnegated true e = refl
-unnegated false e = absurd (true≢false e)
-
-clash : {b : Bool} → b ≡ true → b ≡ false → ⊥
-clash e f = true≢false (sym e ∙ f)
-
 -- none of the first k holds
 abbrev Before : List Bool → ℕ → Type 0
 Before l zero = Unit {0}
@@ -254,20 +243,20 @@ module _ (p : ℕ) (s : List ℕ) (work : ℕ) (y : Bytes s) where
 
   header_sound_lem : cause3 s ≡ false → header_sound s ≡ true
   unfolding cause3
-  header_sound_lem e = unnegated (header_sound s) e
+  header_sound_lem e = not-false (header_sound s) e
 
   types_sound_lem : cause5 s ≡ false → types_sound s ≡ true
   unfolding cause5
-  types_sound_lem e = unnegated (types_sound s) e
+  types_sound_lem e = not-false (types_sound s) e
 
   -- the first that holds is the cause
   owned : (k : ℕ) → FirstHolds tests k → OpeningCause p s work (suc k)
   unfolding cause3 cause4 cause5
   owned zero h = let r = (cause_1 p).0 h in pointer_size r.0 r.1
   owned (suc zero) h = long_section ((cause_2 s).0 h.1)
-  owned (suc (suc zero)) h = header (negated (header_sound s) h.1.1)
-  owned (suc (suc (suc zero))) h = strings (negated (strings_sound (string_area s)) h.1.1.1)
-  owned (suc (suc (suc (suc zero)))) h = records (negated (types_sound s) h.1.1.1.1)
+  owned (suc (suc zero)) h = header (not-true (header_sound s) h.1.1)
+  owned (suc (suc (suc zero))) h = strings (not-true (strings_sound (string_area s)) h.1.1.1)
+  owned (suc (suc (suc (suc zero)))) h = records (not-true (types_sound s) h.1.1.1.1)
   owned (suc (suc (suc (suc (suc zero))))) h = six p s y (header_sound_lem h.1.1.0) (types_sound_lem h.1.1.1.1.0) ((cause_6 p s).0 h.1.1.1.1.1) work
   owned (suc (suc (suc (suc (suc (suc zero)))))) h = seven p s y (header_sound_lem h.1.1.0) (types_sound_lem h.1.1.1.1.0) ((cause_7 p s).0 h.1.1.1.1.1.1) work
   owned (suc (suc (suc (suc (suc (suc (suc zero))))))) h = loop (eight p s y (header_sound_lem h.1.1.0) (types_sound_lem h.1.1.1.1.0) ((cause_8 p s).0 h.1.1.1.1.1.1.1))
@@ -277,19 +266,19 @@ module _ (p : ℕ) (s : List ℕ) (work : ℕ) (y : Bytes s) where
   -- a cause before which, and at which, no test holds is none
   refuted : (k : ℕ) → OpeningCause p s work k → Before tests k → ⊥
   unfolding cause3 cause4 cause5
-  refuted _ (pointer_size a b) h = clash ((cause_1 p).1 (a, b)) h.0
-  refuted _ (long_section q) h = clash ((cause_2 s).1 q) h.1.0
-  refuted _ (header q) h = clash (unnegated (header_sound s) h.1.1.0) q
-  refuted _ (strings q) h = clash (unnegated (strings_sound (string_area s)) h.1.1.1.0) q
-  refuted _ (records q) h = clash (unnegated (types_sound s) h.1.1.1.1.0) q
+  refuted _ (pointer_size a b) h = both_ways _ h.0 ((cause_1 p).1 (a, b))
+  refuted _ (long_section q) h = both_ways _ h.1.0 ((cause_2 s).1 q)
+  refuted _ (header q) h = both_ways _ q (not-false (header_sound s) h.1.1.0)
+  refuted _ (strings q) h = both_ways _ q (not-false (strings_sound (string_area s)) h.1.1.1.0)
+  refuted _ (records q) h = both_ways _ q (not-false (types_sound s) h.1.1.1.1.0)
   refuted _ (followed_past x v m q) h =
-      clash ((cause_6 p s).1 (past_bad p s y (header_sound_lem h.1.1.0) (types_sound_lem h.1.1.1.1.0) x v m q)) h.1.1.1.1.1.0
+      both_ways _ h.1.1.1.1.1.0 ((cause_6 p s).1 (past_bad p s y (header_sound_lem h.1.1.0) (types_sound_lem h.1.1.1.1.0) x v m q))
   refuted _ (followed_kind x v m q) h =
-      clash ((cause_6 p s).1 (kind_bad p s y (header_sound_lem h.1.1.0) (types_sound_lem h.1.1.1.1.0) x v m q)) h.1.1.1.1.1.0
+      both_ways _ h.1.1.1.1.1.0 ((cause_6 p s).1 (kind_bad p s y (header_sound_lem h.1.1.0) (types_sound_lem h.1.1.1.1.0) x v m q))
   refuted _ (holds_prototype x v k m q) h =
-      clash ((cause_7 p s).1 (held p s y (header_sound_lem h.1.1.0) (types_sound_lem h.1.1.1.1.0) x v k m q)) h.1.1.1.1.1.1.0
-  refuted _ (loop q) h = clash ((cause_8 p s).1 (looped p s y (header_sound_lem h.1.1.0) (types_sound_lem h.1.1.1.1.0) q)) h.1.1.1.1.1.1.1.0
-  refuted _ (short_work q) h = clash ((cause_9 s work).1 q) h.1.1.1.1.1.1.1.1.0
+      both_ways _ h.1.1.1.1.1.1.0 ((cause_7 p s).1 (held p s y (header_sound_lem h.1.1.0) (types_sound_lem h.1.1.1.1.0) x v k m q))
+  refuted _ (loop q) h = both_ways _ h.1.1.1.1.1.1.1.0 ((cause_8 p s).1 (looped p s y (header_sound_lem h.1.1.0) (types_sound_lem h.1.1.1.1.0) q))
+  refuted _ (short_work q) h = both_ways _ h.1.1.1.1.1.1.1.1.0 ((cause_9 s work).1 q)
 
   pub numbered : Numbered p s work (opening_number p s work)
   numbered = record { own = own (opening_number p s work) refl; first = λ k q e. refuted k e (none (opening_number p s work) refl k q) }

@@ -6,9 +6,10 @@ use mathlib.Core.Bool.{Bool, true, false}
 use mathlib.Core.List.{List, [], ◌∷◌, ◌++◌, append-nil}
 use mathlib.Core.Logic.{◌⊎◌, inl, inr, ⊎_elim}
 use native.Mathlib.Omega.{arith}
-use lib.ListN.{length, take, get_or, replicate, length-replicate}
+use lib.ListN.{length, take, replicate, length-replicate}
 use lib.Dec.{ltb}
-use Rattle.spec_bytes.proofs.words.Laws.{le_or_lt}
+use Rattle.std.proofs.lemmas.Bool.{cases_lt}
+use Rattle.spec_bytes.proofs.words.Laws.{get_replicate}
 use Rattle.spec_linux_btf.specs.Reading.{Bytes}
 use Rattle.spec_c_dumper.specs.rules.Order.{Table, plain, new, busy, Res, ok, refused}
 use Rattle.spec_c_dumper.specs.rules.Types.{Btf, table_of}
@@ -110,11 +111,6 @@ module _ {M : Type 0} (X : Machine M) (T : Table) (more shows : ℕ → Bool) (s
   every_zeroed S true q = from_zeroed (T.count - 1) 1 (record { answer = record { sess = S; number = 0 }; entries = []; zeroed = true }) refl
 
 -- ---- nothing is in progress between requests
-idle_fresh : (n y : ℕ) → get_or (replicate n new) y new ≡ new
-idle_fresh zero y = refl
-idle_fresh (suc n) zero = refl
-idle_fresh (suc n) (suc y) = idle_fresh n y
-
 module _ {U : Type 0} (N : Naming U) (B : Btf) (void : (table_of B).node 0 ≡ plain) where
   serve_idle : (r : Req) (S : Sess (Ls (Known U))) → Idle S.mach → Idle (serve (machine_by N B) (table_of B) S r).mach
   unfolding serve
@@ -130,7 +126,7 @@ module _ {U : Type 0} (N : Naming U) (B : Btf) (void : (table_of B).node 0 ≡ p
 
   opened_idle : (u : U) → Idle (opened_by N B u).mach
   unfolding afresh
-  opened_idle u y e = let z : new ≡ busy = sym (idle_fresh B.type_cnt y) ∙ e in let q : ◌≡◌ {A = ℕ} 0 1 = cc in omega arith
+  opened_idle u y e = let z : new ≡ busy = sym (get_replicate new B.type_cnt y) ∙ e in let q : ◌≡◌ {A = ℕ} 0 1 = cc in omega arith
 
 -- ---- an accepted call is explained, where it agrees with the rules: of any calls' words, with any way of keeping names
 
@@ -162,7 +158,7 @@ module _ (p modes : ℕ) (s : List ℕ) (n : ℕ) {U : Type 0} (N : Naming U) (u
     unfolding causes_of
     lines ids d F P f g w z q =
         let r : (F (up_to (entries_in l))).answer.number ≡ 0 = sym g.number ∙ q in
-        let e : F (up_to (entries_in l)) ≡ F always = ⊎_elim (λ k. f.fits (entries_in l) k) (λ k. absurd (let y : ◌≡◌ {A = ℕ} 17 0 = sym (f.short (entries_in l) zero-le k) ∙ r in omega arith)) (le_or_lt f.need (entries_in l)) in
+        let e : F (up_to (entries_in l)) ≡ F always = ⊎_elim (λ k. absurd (let y : ◌≡◌ {A = ℕ} 17 0 = sym (f.short (entries_in l) zero-le k) ∙ r in omega arith)) (λ k. f.fits (entries_in l) k) (cases_lt (entries_in l) f.need) in
         let g' : Agrees on_session session_lending d (causes_of l (F always)) = subst (λ (k : Explaining State). Agrees on_session session_lending d (causes_of l k)) e g in
         let none : (F always).answer.number ≡ 0 = sym g'.number ∙ q in
         let everyone : w.accepted ≡ ids = sym (append-nil w.accepted) ∙ ap (λ (k : List ℕ). w.accepted ++ k) (sym (w.whole none)) ∙ sym w.ids_are in

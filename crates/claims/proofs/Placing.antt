@@ -7,27 +7,22 @@ use mathlib.Core.Logic.{◌⊎◌, inl, inr, ⊎_elim, ◌↔◌}
 use native.Mathlib.Omega.{arith}
 use lib.Dec.{eqb, leb}
 use borrow.Author.Tests.{eqb-true, eqb-false, eq-eqb, ne_eqb, leb-true, leb-false, le-leb, lt-leb}
-use Rattle.spec_c_dumper.specs.rules.Writer.{Ask, got, no, ask_then, checked}
+use Rattle.std.specs.Cmp.{first_so, second_so}
+use Rattle.std.proofs.lemmas.Bool.{and_cases, and_left, and_right}
+use Rattle.spec_c_dumper.specs.rules.Writer.{Ask, got, no, checked}
 use Rattle.spec_c_dumper.specs.rules.Types.{Member, Btf}
 use Rattle.spec_c_dumper.specs.rules.Layout.{get_size_of, is_struct_packed, end_of, long, int, short, char, Pad, suits, placed_pad}
 use Rattle.spec_c_dumper.specs.rules.Placing.{round_up, same_unit, field_size, field_fits, start_fits, member_fits, Extent, reached, with_member, extent_of, no_extent, union_align, size_fits, measured, body_packed}
 use Rattle.spec_c_dumper.proofs.rules.Placed.{laid_out, own_alignment, same_gaps}
+use Rattle.spec_c_dumper.proofs.rules.Asking.{no_got, then_got, then_is}
 use Rattle.c_dumper_declarator.proofs.declarations.Lines.{lines_written}
 use Rattle.claims.specs.Request03_placing.{IsUnit, long_64, int_32, short_16, char_8, char_4, char_2, char_1, Widest, Misplaced, early, off_byte, wide, crosses, moved, later, WrongSize, below, other, Request03}
-
-and_left : (a b : Bool) → (a && b) ≡ true → a ≡ true
-and_left true b e = refl
-and_left false b e = absurd (true≢false (sym e))
-
-and_right : (a b : Bool) → (a && b) ≡ true → b ≡ true
-and_right true b e = e
-and_right false b e = absurd (true≢false (sym e))
 
 module _ (ptr_sz start gap : ℕ) where
   -- a unit of w bits that the test takes
   fine : (w : ℕ) → suits start gap w ≡ true → (start % w ≡ 0) × (w ≤ gap)
   unfolding suits
-  fine w e = (eqb-true (start % w) 0 (and_left (eqb (start % w) 0) (leb w gap) e), leb-true w gap (and_right (eqb (start % w) 0) (leb w gap) e))
+  fine w e = (eqb-true (start % w) 0 (first_so (eqb (start % w) 0) (leb w gap) e), leb-true w gap (second_so (eqb (start % w) 0) (leb w gap) e))
 
   -- one that it does not take
   unfit : (w : ℕ) → suits start gap w ≡ false → start % w ≡ 0 → w ≤ gap → ⊥
@@ -164,7 +159,7 @@ module _ (ptr_sz start gap : ℕ) where
       by_32 a false b = by_16 a b (s 16) refl
 
       by_64 : (b : Bool) → (eqb ptr_sz 8 && s 64) ≡ b → W (P b (s 32) (s 16) (s 8) (s 4) (s 2))
-      by_64 true a = widest_by _ (long_64 (eqb-true ptr_sz 8 (and_left (eqb ptr_sz 8) (s 64) a))) (fine 64 (and_right (eqb ptr_sz 8) (s 64) a)) (record {
+      by_64 true a = widest_by _ (long_64 (eqb-true ptr_sz 8 (first_so (eqb ptr_sz 8) (s 64) a))) (fine 64 (second_so (eqb ptr_sz 8) (s 64) a)) (record {
         of_64 = λ z m l. omega arith;
         of_32 = λ m l. omega arith;
         of_16 = λ m l. omega arith;
@@ -176,39 +171,6 @@ module _ (ptr_sz start gap : ℕ) where
       by_64 false a = by_32 a (s 32) refl
 
 -- ---- 18
-
-record Then {A C : Type 0} (x : Ask A) (k : A → Ask C) (c : C) : Type 0 where
-  value : A
-  first : x ≡ got value
-  rest : k value ≡ got c
-
-no_got : {A : Type 0} (c : ℕ) (a : A) → no c ≡ got a → ⊥
-no_got c a e = let z : ◌≡◌ {A = ℕ} 0 1 = cc in omega arith
-
-then_got : {A C : Type 0} (x : Ask A) (k : A → Ask C) (c : C) → ask_then x k ≡ got c → Then x k c
-unfolding ask_then
-then_got (got a) k c e = record { value = a; first = refl; rest = e }
-then_got (no r) k c e = absurd (no_got r c e)
-
-got_then : {A C : Type 0} (x : Ask A) (k : A → Ask C) (a : A) → x ≡ got a → ask_then x k ≡ k a
-unfolding ask_then
-got_then x k a e = ap (λ y. ask_then y k) e
-
-and_false : (a b : Bool) → (a && b) ≡ false → (a ≡ false) ⊎ (b ≡ false)
-and_false false b e = inl refl
-and_false true b e = inr e
-
-left_false : (a b : Bool) → a ≡ false → (a && b) ≡ false
-left_false false b e = refl
-left_false true b e = absurd (true≢false e)
-
-right_false : (a b : Bool) → b ≡ false → (a && b) ≡ false
-right_false false b e = refl
-right_false true b e = e
-
-no_false : (b : Bool) → (b ≡ true → ⊥) → b ≡ false
-no_false true f = absurd (f refl)
-no_false false f = refl
 
 module _ (B : Btf) (is_struct packed : Bool) where
   abbrev M : ℕ → List Member → Type 0
@@ -236,7 +198,7 @@ module _ (B : Btf) (is_struct packed : Bool) where
   field_bad last m ms size e f g = ⊎_elim
       (λ q. wide last m ms size f (field_size_lem m size f e) (leb-false m.bit_size (8 * size) q))
       (λ q. go packed refl q)
-      (and_false (leb m.bit_size (8 * size)) _ g)
+      (and_cases (leb m.bit_size (8 * size)) _ g)
     where
       go : (b : Bool) → packed ≡ b → elim b as (λ _. Bool) [ true ↦ true | false ↦ eqb (m.bit_offset / (8 * size)) ((m.bit_offset + m.bit_size - 1) / (8 * size)) ] ≡ false → M last (m ∷ ms)
       go true q r = absurd (true≢false r)
@@ -244,7 +206,7 @@ module _ (B : Btf) (is_struct packed : Bool) where
 
   member_bad : (last : ℕ) (m : Member) (ms : List Member) (size : ℕ) → field_size B m ≡ got size → member_fits is_struct packed last size m.bit_offset m.bit_size ≡ false → M last (m ∷ ms)
   unfolding member_fits
-  member_bad last m ms size e g = ⊎_elim (start_bad last m ms) (λ q. go (eqb m.bit_size 0) refl q) (and_false (start_fits is_struct last m.bit_offset) _ g)
+  member_bad last m ms size e g = ⊎_elim (start_bad last m ms) (λ q. go (eqb m.bit_size 0) refl q) (and_cases (start_fits is_struct last m.bit_offset) _ g)
     where
       go : (b : Bool) → eqb m.bit_size 0 ≡ b → elim b as (λ _. Bool) [ true ↦ eqb (m.bit_offset % 8) 0 | false ↦ field_fits packed size m.bit_offset m.bit_size ] ≡ false → M last (m ∷ ms)
       go true q r = off_byte last m ms (eqb-true m.bit_size 0 q) (eqb-false (m.bit_offset % 8) 0 r)
@@ -261,7 +223,7 @@ module _ (B : Btf) (is_struct packed : Bool) where
       let p = then_got _ _ _ e in
       let q = then_got _ _ _ p.rest in
       ⊎_elim
-      (λ r. ⊎_elim (λ k. inl k) (λ k. inr (member_bad y.last m ms p.value p.first k)) (and_false y.fits _ r))
+      (λ r. ⊎_elim (λ k. inl k) (λ k. inr (member_bad y.last m ms p.value p.first k)) (and_cases y.fits _ r))
       (λ r. inr (later y.last m ms q.value q.first r))
       (bad_members ms (after y m p.value q.value) x q.rest f)
 
@@ -272,32 +234,32 @@ module _ (B : Btf) (is_struct packed : Bool) where
   stays_bad (m ∷ ms) y x e f =
       let p = then_got _ _ _ e in
       let q = then_got _ _ _ p.rest in
-      stays_bad ms (after y m p.value q.value) x q.rest (left_false y.fits _ f)
+      stays_bad ms (after y m p.value q.value) x q.rest (and_left y.fits _ f)
 
   bad_start : (last : ℕ) (m : Member) → start_fits is_struct last m.bit_offset ≡ false → (size : ℕ) → member_fits is_struct packed last size m.bit_offset m.bit_size ≡ false
   unfolding member_fits
-  bad_start last m f size = left_false (start_fits is_struct last m.bit_offset) _ f
+  bad_start last m f size = and_left (start_fits is_struct last m.bit_offset) _ f
 
   bad_plain : (last : ℕ) (m : Member) → m.bit_size ≡ 0 → (m.bit_offset % 8 ≡ 0 → ⊥) → (size : ℕ) → member_fits is_struct packed last size m.bit_offset m.bit_size ≡ false
   unfolding member_fits
   bad_plain last m z f size =
-      right_false (start_fits is_struct last m.bit_offset) _
+      and_right (start_fits is_struct last m.bit_offset) _
       (ap (λ (b : Bool). elim b as (λ _. Bool) [ true ↦ eqb (m.bit_offset % 8) 0 | false ↦ field_fits packed size m.bit_offset m.bit_size ]) (eq-eqb m.bit_size 0 z) ∙ ne_eqb (m.bit_offset % 8) 0 f)
 
   bad_field : (last : ℕ) (m : Member) (size : ℕ) → (m.bit_size ≡ 0 → ⊥) → field_fits packed size m.bit_offset m.bit_size ≡ false → member_fits is_struct packed last size m.bit_offset m.bit_size ≡ false
   unfolding member_fits
   bad_field last m size z f =
-      right_false (start_fits is_struct last m.bit_offset) _
+      and_right (start_fits is_struct last m.bit_offset) _
       (ap (λ (b : Bool). elim b as (λ _. Bool) [ true ↦ eqb (m.bit_offset % 8) 0 | false ↦ field_fits packed size m.bit_offset m.bit_size ]) (ne_eqb m.bit_size 0 z) ∙ f)
 
   wide_field : (m : Member) (size : ℕ) → 8 * size < m.bit_size → field_fits packed size m.bit_offset m.bit_size ≡ false
   unfolding field_fits
-  wide_field m size l = left_false (leb m.bit_size (8 * size)) _ (lt-leb m.bit_size (8 * size) l)
+  wide_field m size l = and_left (leb m.bit_size (8 * size)) _ (lt-leb m.bit_size (8 * size) l)
 
   crossing_field : (m : Member) (size : ℕ) → packed ≡ false → (m.bit_offset / (8 * size) ≡ (m.bit_offset + m.bit_size - 1) / (8 * size) → ⊥) → field_fits packed size m.bit_offset m.bit_size ≡ false
   unfolding field_fits same_unit
   crossing_field m size p l =
-      right_false (leb m.bit_size (8 * size)) _
+      and_right (leb m.bit_size (8 * size)) _
       (ap (λ (b : Bool). elim b as (λ _. Bool) [ true ↦ true | false ↦ eqb (m.bit_offset / (8 * size)) ((m.bit_offset + m.bit_size - 1) / (8 * size)) ]) p ∙ ne_eqb (m.bit_offset / (8 * size)) ((m.bit_offset + m.bit_size - 1) / (8 * size)) l)
 
   -- no members, nothing bad
@@ -334,7 +296,7 @@ module _ (B : Btf) (is_struct packed : Bool) where
       let p = then_got _ _ _ e in
       let q = then_got _ _ _ p.rest in
       ⊎_elim
-      (λ k. stays_bad ms (after y m p.value q.value) x q.rest (right_false y.fits _ k))
+      (λ k. stays_bad ms (after y m p.value q.value) x q.rest (and_right y.fits _ k))
       (λ k. members_bad ms (after y m p.value q.value) x q.rest k)
       (first_bad y.last m ms p.value p.first q.value q.first r)
 
@@ -361,7 +323,7 @@ eighteen B placing is_struct sz ms a packed x bits ea ep ex eb = (there, back)
     is : body_packed B is_struct sz ms ≡ judge (x.fits && size_fits is_struct a x.last bits)
     is =
         ap (λ (t : Bool). elim t as (λ _. Ask Bool) [ true ↦ measured B is_struct sz ms | false ↦ is_struct_packed B is_struct sz ms ]) placing
-        ∙ got_then _ _ a ea ∙ got_then _ _ packed ep ∙ got_then _ _ x ex ∙ got_then _ _ bits eb
+        ∙ then_is _ _ a ea ∙ then_is _ _ packed ep ∙ then_is _ _ x ex ∙ then_is _ _ bits eb
 
     refused : (t : Bool) → judge t ≡ no 18 → t ≡ false
     refused true e = absurd (no_got 18 packed (sym e))
@@ -371,11 +333,11 @@ eighteen B placing is_struct sz ms a packed x bits ea ep ex eb = (there, back)
     there e = ⊎_elim
         (λ q. ⊎_elim (λ k. absurd (true≢false k)) (λ k. inl k) (bad_members B is_struct packed ms no_extent x ex q))
         (λ q. inr (size_bad a x.last bits is_struct q))
-        (and_false x.fits _ (refused _ (sym is ∙ e)))
+        (and_cases x.fits _ (refused _ (sym is ∙ e)))
 
     back : Misplaced B is_struct packed 0 ms ⊎ WrongSize a x.last bits is_struct → body_packed B is_struct sz ms ≡ no 18
-    back (inl r) = is ∙ ap judge (left_false x.fits _ (members_bad B is_struct packed ms no_extent x ex r))
-    back (inr r) = is ∙ ap judge (right_false x.fits _ (bad_size a x.last bits r))
+    back (inl r) = is ∙ ap judge (and_left x.fits _ (members_bad B is_struct packed ms no_extent x ex r))
+    back (inr r) = is ∙ ap judge (and_right x.fits _ (bad_size a x.last bits r))
 
 pub placing : Request03
 placing = record {

@@ -4,7 +4,7 @@ use mathlib.Core.Path.{◌≡◌, refl}
 use mathlib.Core.List.{List}
 use mathlib.Core.Logic.{inl, inr, ⊎_elim}
 use native.Mathlib.Omega.{arith}
-use Rattle.spec_bytes.proofs.words.Laws.{le_or_lt}
+use Rattle.std.proofs.lemmas.Bool.{cases_lt}
 use Rattle.spec_opening.specs.Causes.{opening_number}
 use Rattle.btfdump_run.specs.printed.Printed.{refused_line}
 use Rattle.proof_calls.proofs.program.Claims.{runs}
@@ -23,9 +23,9 @@ module _ (p : ℕ) (s : List ℕ) (work : ℕ) where
 
   one_number : (m n : ℕ) → Numbered p s work m → Numbered p s work n → m ≡ n
   one_number m n a b = ⊎_elim
-      (λ l. ⊎_elim (λ r. omega (arith, l, r)) (λ r. absurd (not_less n m b a r)) (le_or_lt n m))
       (λ l. absurd (not_less m n a b l))
-      (le_or_lt m n)
+      (λ l. ⊎_elim (λ r. absurd (not_less n m b a r)) (λ r. omega (arith, l, r)) (cases_lt m n))
+      (cases_lt n m)
 
 pub printed : Program
 unfolding refused_line

@@ -3,10 +3,11 @@ use Prim.Native.Nat.{ℕ, ◌+◌, ◌*◌, ◌≤◌, ◌<◌}
 use mathlib.Core.Path.{◌≡◌, refl, ap, sym, ◌∙◌}
 use mathlib.Core.Bool.{Bool, true, false}
 use mathlib.Core.List.{List, [], ◌∷◌}
-use mathlib.Core.Logic.{◌⊎◌, inl, inr, ⊎_elim}
+use mathlib.Core.Logic.{⊎_elim}
 use native.Mathlib.Omega.{arith}
-use borrow.Author.Tests.{le-leb, leb-true, leb-false}
+use borrow.Author.Tests.{le-leb, leb-true}
 use lib.Dec.{leb}
+use Rattle.std.proofs.lemmas.Bool.{cases_lt}
 use Rattle.session_declaration_reader.specs.grammar.Chain.{Chain, entries}
 use Rattle.session_declaration_reader.specs.tokens.Tokens.{Token, tokens}
 use Rattle.session_declaration_reader.specs.grammar.Grammar.{Reads, reads, fails}
@@ -34,13 +35,6 @@ chain_refused c e = let k : ◌≡◌ {A = ℕ} 0 1 = cc in omega arith
 few : (c : Chain (List ℕ)) → entries c ≤ 512 → within_most c ≡ chain c
 unfolding within_most
 few c h = passed (leb (entries c) 512) (chain c) refused (le-leb (entries c) 512 h)
-
-le_or_lt : (a b : ℕ) → (a ≤ b) ⊎ (b < a)
-le_or_lt a b = go (leb a b) refl
-  where
-    go : (t : Bool) → leb a b ≡ t → (a ≤ b) ⊎ (b < a)
-    go true e = inl (leb-true a b e)
-    go false e = inr (leb-false a b e)
 
 module _ (s : List ℕ) where
   abbrev ts : Ts
@@ -78,7 +72,7 @@ module _ (s : List ℕ) where
       go fails p q = absurd (chain_refused c q)
 
   refuses_only : read s ≡ refused → (c : Chain (List ℕ)) → Declares s c → 512 < entries c
-  refuses_only e c d = ⊎_elim (λ h. absurd (chain_refused c (sym e ∙ reads_all c d h))) (λ h. h) (le_or_lt (entries c) 512)
+  refuses_only e c d = ⊎_elim (λ h. h) (λ h. absurd (chain_refused c (sym e ∙ reads_all c d h))) (cases_lt 512 (entries c))
 
   refuses_all : ((c : Chain (List ℕ)) → Declares s c → 512 < entries c) → read s ≡ refused
   refuses_all h = go (read s) refl

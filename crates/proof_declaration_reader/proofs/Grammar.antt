@@ -1,9 +1,10 @@
 -- The grammar reads the tokens of a chain back to the chain. Assumes nothing.
 use Prim.Native.Nat.{ℕ, zero, suc, ◌+◌, ◌-◌, ◌*◌, ◌≤◌}
 use mathlib.Core.Path.{◌≡◌, refl, ap, sym, ◌∙◌}
-use mathlib.Core.Bool.{Bool, true, false, not, ◌&&◌, ◌||◌}
+use mathlib.Core.Bool.{Bool, true, false, not, ◌&&◌, ◌||◌, false≢true}
 use mathlib.Core.List.{List, [], ◌∷◌}
 use native.Mathlib.Omega.{arith}
+use Rattle.std.proofs.lemmas.Bool.{or_from}
 use Rattle.spec_c_dumper.specs.rules.Types.{Qualifier}
 use Rattle.session_declaration_reader.specs.grammar.Chain.{Layers, named, pointer, array, proto, Params, closed, dots, param, Chain, layer_entries, param_entries, entries}
 use Rattle.session_declaration_reader.specs.tokens.Tokens.{number, mark, rest}
@@ -16,9 +17,6 @@ use Rattle.session_declaration_reader.proofs.tokens.Cases.{passed, failed}
 
 abbrev Res : Type 0
 Res = Reads (List ℕ) (Layers (List ℕ))
-
-false_true : false ≡ true → ⊥
-false_true q = let k : ◌≡◌ {A = ℕ} 0 1 = cc in omega arith
 
 -- calls from a declarator to what stands behind it
 abbrev used : Layers (List ℕ) → ℕ
@@ -99,9 +97,9 @@ ends_here l m ih h r b s =
 
 -- not a star, and not in parentheses
 no_star : (a b c : Bool) → (not a && not b && not c) ≡ true → (b ≡ false) × (c ≡ false)
-no_star true b c e = absurd (false_true e)
-no_star false true c e = absurd (false_true e)
-no_star false false true e = absurd (false_true e)
+no_star true b c e = absurd (false≢true e)
+no_star false true c e = absurd (false≢true e)
+no_star false false true e = absurd (false≢true e)
 no_star false false false e = (refl, refl)
 
 named_holds : (m : Nm) → Holds named m
@@ -144,7 +142,7 @@ array_holds n named m a ih h r b e = ih (suc h) (mark 91 ∷ number n ∷ mark 9
 array_holds n (pointer q l) m a ih h r b e =
     ap (λ (x : Res). and_then x (λ k us. wanted 41 us (λ vs. suffixes (suc h) k vs))) (ih h (mark 41 ∷ mark 91 ∷ number n ∷ mark 93 ∷ r) b at_close)
 array_holds n (array k l) m a ih h r b e = ih (suc h) (mark 91 ∷ number n ∷ mark 93 ∷ r) (omega arith) refl
-array_holds n (proto ps l) m a ih h r b e = absurd (false_true a)
+array_holds n (proto ps l) m a ih h r b e = absurd (false≢true a)
 
 proto_holds : (ps : Params (List ℕ)) (l : Layers (List ℕ)) (m : Nm) → starts_with_dots ps ≡ false → AllowedParams ps → returnable l ≡ true → Holds l m → ParamsHold ps → Holds (proto ps l) m
 unfolding declarator suffixes begins bracketed rest and_then wanted
@@ -162,8 +160,8 @@ proto_holds ps (pointer q l) m d a t ih ph h r b e =
   where
     dotless : (ps : Params (List ℕ)) → starts_with_dots ps ≡ false → (starts_with_dots ps && true) ≡ false
     dotless ps d = rw d
-proto_holds ps (array n l) m d a t ih ph h r b e = absurd (false_true t)
-proto_holds ps (proto qs l) m d a t ih ph h r b e = absurd (false_true t)
+proto_holds ps (array n l) m d a t ih ph h r b e = absurd (false≢true t)
+proto_holds ps (proto qs l) m d a t ih ph h r b e = absurd (false≢true t)
 
 last : (ps : Params (List ℕ)) → (starts_with_dots ps && false) ≡ false
 last closed = refl
@@ -179,10 +177,6 @@ list_goes h t us r q ss ws l ps e f g =
     ∙ ap (λ (x : Reads (List ℕ) (Params (List ℕ))). and_then x (λ qs xs. reads (param q (words_of ss) l qs) xs)) f
     ∙ ap (λ (x : List (List ℕ)). reads (param q x l ps) r) g
 
-neither : (a b : Bool) → a ≡ false → b ≡ false → (a || b) ≡ false
-neither true b e f = absurd (false_true (sym e))
-neither false b e f = f
-
 list_reads : (q : List Qualifier) (ws : List (List ℕ)) (l : Layers (List ℕ)) (ps : Params (List ℕ))
     → Base q ws → plain_void q (spelling ws) l ≡ false → Holds l lacks → ParamsHold ps
     → (h : ℕ) (r : List Tok) → used l + spare l + 1 + size ps ≤ h → param_list (suc h) (qual_toks q (word_toks ws (toks l lacks (param_toks ps false r)))) ≡ reads (param q ws l ps) r
@@ -195,7 +189,7 @@ list_reads q ws l ps b v ih ph h r s =
     (void_before 41 ts || void_before 44 ts)
     _
     _
-    (neither (void_before 41 ts) (void_before 44 ts) (not_void 41 at_41 q ws l us b.names v) (not_void 44 at_44 q ws l us b.names v))
+    (or_from (void_before 41 ts) (void_before 44 ts) (not_void 41 at_41 q ws l us b.names v) (not_void 44 at_44 q ws l us b.names v))
     ∙ base_goes false q ws (toks l lacks us) _ b (toks_qual l lacks us (stops_qual st)) (unnamed_left l us st)
     ∙ list_goes
     h
@@ -232,7 +226,7 @@ closed_holds false (suc h) r s d = refl
 dots_hold : ParamsHold dots
 unfolding params param_end begins rest wanted
 dots_hold first zero r s d = absurd (omega arith)
-dots_hold true (suc h) r s d = absurd (false_true (sym d))
+dots_hold true (suc h) r s d = absurd (false≢true (sym d))
 dots_hold false (suc h) r s d = refl
 
 mutual

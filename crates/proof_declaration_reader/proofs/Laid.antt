@@ -1,13 +1,14 @@
 -- The words of a base stand in the text one behind another, with nothing but spaces between them. Assumes nothing.
 use Prim.Native.Nat.{ℕ, ◌+◌, ◌-◌, ◌≤◌, ◌<◌}
 use mathlib.Core.Path.{◌≡◌, refl, ap, sym, ◌∙◌}
-use mathlib.Core.Bool.{Bool, true, false, not, ◌&&◌}
+use mathlib.Core.Bool.{Bool, true, false, not, ◌&&◌, false≢true}
 use mathlib.Core.List.{List, [], ◌∷◌, ◌++◌, append_assoc, append-nil}
 use native.Mathlib.Omega.{arith}
-use borrow.Author.Tests.{eqb-true}
+use borrow.Author.Tests.{eqb-true, not-true}
 use lib.ListN.{length, take, drop, length-append, length-drop, length-take}
 use lib.Seq.{drop-append_seam, take-append_seam, drop-append-le, take-add, drop-drop}
 use lib.Dec.{eqb}
+use Rattle.std.proofs.lemmas.Bool.{and_parts}
 use Rattle.spec_bytes.specs.text.Text.{ascii}
 use Rattle.spec_c_dumper.specs.rules.Types.{Qualifier, volatile, const, restrict}
 use Rattle.spec_c_dumper.specs.rules.Names.{same_bytes}
@@ -16,7 +17,7 @@ use Rattle.session_declaration_reader.specs.tokens.Tokens.{Token, qual, word, nu
 use Rattle.session_declaration_reader.specs.bases.Bases.{spelt, ends_name, after_quals, word_run, after_words, is_base, words_of}
 use Rattle.session_declaration_reader.specs.tokens.Looking.{Span, places}
 use Rattle.session_declaration_reader.specs.bases.Items.{first_from, last_to}
-use Rattle.session_declaration_reader.proofs.tokens.Cases.{false_true, passed, failed}
+use Rattle.session_declaration_reader.proofs.tokens.Cases.{passed, failed}
 use Rattle.proof_declaration_reader.specs.Places.{each_word, bytes_at}
 use Rattle.proof_declaration_reader.specs.Decoding.{split, words_at}
 use Rattle.proof_declaration_reader.proofs.AtPlaces.{place_bytes}
@@ -26,14 +27,6 @@ is_space b = eqb b 32
 
 abbrev pub not_space : ℕ → Bool
 not_space b = not (eqb b 32)
-
-both_true : (a b : Bool) → (a && b) ≡ true → (a ≡ true) × (b ≡ true)
-both_true true b e = (refl, e)
-both_true false b e = absurd (false_true e)
-
-not_true : (b : Bool) → not b ≡ true → b ≡ false
-not_true true e = absurd (false_true e)
-not_true false e = refl
 
 -- what stands at a place, and between two
 abbrev pub between : List ℕ → ℕ → ℕ → List ℕ
@@ -112,15 +105,15 @@ module _ (s : List ℕ) where
 
   neat : (n : Bool) (ts : List (Token Span)) → is_base (word_run n ts) ≡ true → Laid s ts → Neat s (words_of (word_run n ts))
   unfolding word_run is_base words_of
-  neat n [] e h = false_true e
-  neat n (qual q ∷ ts) e h = false_true e
+  neat n [] e h = false≢true e
+  neat n (qual q ∷ ts) e h = false≢true e
   neat n (word k w ∷ ts) e h = go (n && ends_name ts) e
     where
       go : (b : Bool) → is_base {W = Span} (elim b [ true ↦ [] | false ↦ spelt k w ∷ word_run n ts ]) ≡ true → Neat s (words_of {W = Span} (elim b [ true ↦ [] | false ↦ spelt k w ∷ word_run n ts ]))
-      go true x = false_true x
+      go true x = false≢true x
       go false x = near n w ts h.0 h.1 h.2
-  neat n (number m ∷ ts) e h = false_true e
-  neat n (mark b ∷ ts) e h = false_true e
+  neat n (number m ∷ ts) e h = false≢true e
+  neat n (mark b ∷ ts) e h = false≢true e
 
   pub worded : (n : Bool) (ts : List (Token Span)) → is_base (word_run n ts) ≡ true → Laid s ts → Neat s (words_of (word_run n ts)) × Laid s (after_words n ts)
   worded n ts e h = (neat n ts e h, laid_words n ts h)
@@ -143,7 +136,7 @@ token_is P run v w q n m =
 all_append : (f : ℕ → Bool) (a b : List ℕ) → all_of f a ≡ true → all_of f b ≡ true → all_of f (a ++ b) ≡ true
 unfolding all_of
 all_append f [] b h k = k
-all_append f (x ∷ a) b h k = let p = both_true (f x) (all_of f a) h in rw (p.0, all_append f a b p.1 k)
+all_append f (x ∷ a) b h k = let p = and_parts (f x) (all_of f a) h in rw (p.0, all_append f a b p.1 k)
 
 run_space : in_run 32 ≡ false
 unfolding in_run is_word_byte is_letter is_digit
@@ -153,13 +146,13 @@ no_space : (b : ℕ) → in_run b ≡ true → not_space b ≡ true
 no_space b h = go (eqb b 32) refl
   where
     go : (t : Bool) → eqb b 32 ≡ t → not t ≡ true
-    go true e = absurd (false_true (sym run_space ∙ ap in_run (sym (eqb-true b 32 e)) ∙ h))
+    go true e = absurd (false≢true (sym run_space ∙ ap in_run (sym (eqb-true b 32 e)) ∙ h))
     go false e = refl
 
 no_spaces : (w : List ℕ) → all_of in_run w ≡ true → all_of not_space w ≡ true
 unfolding all_of
 no_spaces [] h = refl
-no_spaces (b ∷ w) h = let p = both_true (in_run b) (all_of in_run w) h in rw (no_space b p.0, no_spaces w p.1)
+no_spaces (b ∷ w) h = let p = and_parts (in_run b) (all_of in_run w) h in rw (no_space b p.0, no_spaces w p.1)
 
 module _ (s : List ℕ) where
   abbrev tk : List ℕ → List ℕ → List (Token Span)
@@ -260,8 +253,8 @@ split_run : (w run r : List ℕ) → all_of not_space w ≡ true → split run (
 unfolding split all_of
 split_run [] run r h = ap (λ (x : List ℕ). split x r) (sym (append-nil run))
 split_run (b ∷ w) run r h =
-    let p = both_true (not_space b) (all_of not_space w) h in
-    failed (eqb b 32) _ (split (run ++ b ∷ []) (w ++ r)) (not_true (eqb b 32) p.0)
+    let p = and_parts (not_space b) (all_of not_space w) h in
+    failed (eqb b 32) _ (split (run ++ b ∷ []) (w ++ r)) (not-true (eqb b 32) p.0)
     ∙ split_run w (run ++ b ∷ []) r p.1
     ∙ ap (λ (x : List ℕ). split x r) (append_assoc run (b ∷ []) w)
 
@@ -269,7 +262,7 @@ split_spaces : (g r : List ℕ) → all_of is_space g ≡ true → split [] (g +
 unfolding split all_of
 split_spaces [] r h = refl
 split_spaces (b ∷ g) r h =
-    let p = both_true (is_space b) (all_of is_space g) h in
+    let p = and_parts (is_space b) (all_of is_space g) h in
     passed (eqb b 32) (split [] (g ++ r)) _ p.0 ∙ split_spaces g r p.1
 
 split_gap : (run g r : List ℕ) → 0 < length run → 0 < length g → all_of is_space g ≡ true → split run (g ++ r) ≡ run ∷ split [] r
@@ -277,7 +270,7 @@ unfolding split all_of
 split_gap [] g r n m h = absurd (omega arith)
 split_gap (x ∷ run) [] r n m h = absurd (omega arith)
 split_gap (x ∷ run) (b ∷ g) r n m h =
-    let p = both_true (is_space b) (all_of is_space g) h in
+    let p = and_parts (is_space b) (all_of is_space g) h in
     passed (eqb b 32) ((x ∷ run) ∷ split [] (g ++ r)) _ p.0 ∙ ap (λ ws. (x ∷ run) ∷ ws) (split_spaces g r p.1)
 
 split_last : (run : List ℕ) → 0 < length run → split run [] ≡ run ∷ []

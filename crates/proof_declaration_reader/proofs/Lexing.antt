@@ -1,12 +1,13 @@
 -- The tokens of the written text of a chain are the tokens of the chain. Assumes nothing.
 use Prim.Native.Nat.{ℕ, zero, suc, ◌+◌, ◌-◌, ◌*◌, ◌≤◌, ◌<◌}
 use mathlib.Core.Path.{◌≡◌, refl, ap, sym, ◌∙◌}
-use mathlib.Core.Bool.{Bool, true, false, not, ◌&&◌, ◌||◌}
+use mathlib.Core.Bool.{Bool, true, false, not, ◌||◌, or-true, false≢true}
 use mathlib.Core.List.{List, [], ◌∷◌, ◌++◌, append_assoc, append-nil}
 use native.Mathlib.Omega.{arith}
 use borrow.Author.Tests.{lt-ltb, le-ltb, le-leb, ne_eqb}
 use lib.ListN.{length}
 use lib.Dec.{eqb}
+use Rattle.std.proofs.lemmas.Bool.{and_parts, or_parts, or_left}
 use Rattle.spec_bytes.specs.text.Decimal.{digits, decimal}
 use Rattle.spec_bytes.proofs.text.Digits.{horner, AllDigits, Numeral, decimal_is}
 use Rattle.spec_c_dumper.specs.rules.Types.{Qualifier, volatile, const, restrict, is_empty}
@@ -28,9 +29,6 @@ abbrev Apart : List ℕ → Type 0
 Apart [] = Unit {0}
 Apart (b ∷ s) = in_run b ≡ false
 
-false_true : false ≡ true → ⊥
-false_true q = let k : ◌≡◌ {A = ℕ} 0 1 = cc in omega arith
-
 lex_ends : (b : ℕ) (run s : List ℕ) → Apart s → lex (b ∷ run) s ≡ run_token (b ∷ run) (b ∷ run) ∷ lex [] s
 unfolding tokens ended
 lex_ends b run [] a = refl
@@ -38,19 +36,11 @@ lex_ends b run (c ∷ s) a =
     failed (in_run c) (lex ((b ∷ run) ++ c ∷ []) s) (run_token (b ∷ run) (b ∷ run) ∷ lone c (lex [] s)) a
     ∙ ap (λ (t : List Tok). run_token (b ∷ run) (b ∷ run) ∷ t) (sym (failed (in_run c) (lex (c ∷ []) s) (lone c (lex [] s)) a))
 
-both_true : (a b : Bool) → (a && b) ≡ true → (a ≡ true) × (b ≡ true)
-both_true true b e = (refl, e)
-both_true false b e = absurd (false_true e)
-
-either_false : (a b : Bool) → (a || b) ≡ false → (a ≡ false) × (b ≡ false)
-either_false true b e = absurd (false_true (sym e))
-either_false false b e = (refl, e)
-
 lex_run : (w run s : List ℕ) → all_of in_run w ≡ true → lex run (w ++ s) ≡ lex (run ++ w) s
 unfolding tokens all_of
 lex_run [] run s h = ap (λ (x : List ℕ). lex x s) (sym (append-nil run))
 lex_run (b ∷ w) run s h =
-    let p = both_true (in_run b) (all_of in_run w) h in
+    let p = and_parts (in_run b) (all_of in_run w) h in
     passed (in_run b) (lex (run ++ b ∷ []) (w ++ s)) _ p.0
     ∙ lex_run w (run ++ b ∷ []) s p.1
     ∙ ap (λ (x : List ℕ). lex x s) (append_assoc run (b ∷ []) w)
@@ -59,11 +49,6 @@ lex_whole : (w s : List ℕ) → all_of in_run w ≡ true → 0 < length w → A
 lex_whole [] s h n a = absurd (omega arith)
 lex_whole (b ∷ w) s h n a = lex_run (b ∷ w) [] s h ∙ lex_ends b w s a
 
--- words
-or_left : (a b : Bool) → a ≡ true → (a || b) ≡ true
-or_left true b e = refl
-or_left false b e = absurd (false_true e)
-
 letter_in : (b : ℕ) → is_letter b ≡ true → in_run b ≡ true
 unfolding in_run is_word_byte
 letter_in b h = or_left (is_letter b || is_digit b) (eqb b 46) (or_left (is_letter b) (is_digit b) h)
@@ -71,18 +56,18 @@ letter_in b h = or_left (is_letter b || is_digit b) (eqb b 46) (or_left (is_lett
 bytes_in : (w : List ℕ) → all_of is_word_byte w ≡ true → all_of in_run w ≡ true
 unfolding all_of in_run
 bytes_in [] h = refl
-bytes_in (b ∷ w) h = let p = both_true (is_word_byte b) (all_of is_word_byte w) h in rw (p.0, bytes_in w p.1)
+bytes_in (b ∷ w) h = let p = and_parts (is_word_byte b) (all_of is_word_byte w) h in rw (p.0, bytes_in w p.1)
 
 word_in_lem : (w : List ℕ) → identifier w ≡ true → (all_of in_run w ≡ true) × (0 < length w)
 unfolding identifier all_of
-word_in_lem [] h = absurd (false_true h)
-word_in_lem (b ∷ w) h = let p = both_true (is_letter b) (all_of is_word_byte w) h in (rw (letter_in b p.0, bytes_in w p.1), omega arith)
+word_in_lem [] h = absurd (false≢true h)
+word_in_lem (b ∷ w) h = let p = and_parts (is_letter b) (all_of is_word_byte w) h in (rw (letter_in b p.0, bytes_in w p.1), omega arith)
 
 word_token_lem : (w : List ℕ) → Word w → run_token w w ≡ word (kind_of w) w
 unfolding run_token word_token is_qualifier
 word_token_lem w h =
-    let p = either_false (same_bytes w (qualifier const) || same_bytes w (qualifier volatile)) (same_bytes w (qualifier restrict)) h.unqualified in
-    let q = either_false (same_bytes w (qualifier const)) (same_bytes w (qualifier volatile)) p.0 in
+    let p = or_parts (same_bytes w (qualifier const) || same_bytes w (qualifier volatile)) (same_bytes w (qualifier restrict)) h.unqualified in
+    let q = or_parts (same_bytes w (qualifier const)) (same_bytes w (qualifier volatile)) p.0 in
     passed (identifier w) (word_token w w) _ h.identifies
     ∙ failed (same_bytes w (qualifier const)) _ _ q.0
     ∙ failed (same_bytes w (qualifier volatile)) _ _ q.1
@@ -115,13 +100,9 @@ unfolding value_of
 value_is n [] = refl
 value_is n (d ∷ s) = value_is (n * 10 + (d - 48)) s
 
-or_true : (a : Bool) → (a || true) ≡ true
-or_true true = refl
-or_true false = refl
-
 is_count_lem : (n d : ℕ) (s : List ℕ) → AllDigits (d ∷ s) → (d ≡ 48 → ⊥) → value_of 0 (d ∷ s) ≡ n → n ≤ 4294967295 → is_count (d ∷ s) ≡ true
 unfolding is_count
-is_count_lem n d s a f v h = rw (digits_all (d ∷ s) a, ne_eqb d 48 f, or_true (is_empty s), v, le-leb n 4294967295 h)
+is_count_lem n d s a f v h = rw (digits_all (d ∷ s) a, ne_eqb d 48 f, or-true (is_empty s), v, le-leb n 4294967295 h)
 
 count_token : (n : ℕ) (s : List ℕ) → 0 < n → n ≤ 4294967295 → Numeral n s → run_token s s ≡ number n
 unfolding run_token identifier
@@ -260,14 +241,8 @@ name_apart : (f : List ℕ) (p : Bool) (s : List ℕ) → (is_empty f || not p) 
 unfolding name_part sep_name is_empty in_run is_word_byte is_letter is_digit
 name_apart [] true s h a = a
 name_apart [] false s h a = a
-name_apart (b ∷ f) true s h a = absurd (false_true h)
+name_apart (b ∷ f) true s h a = absurd (false≢true h)
 name_apart (b ∷ f) false s h a = refl
-
-gap_open : (f : List ℕ) (p : Bool) (s : List ℕ) → Apart ((gap f p ++ 40 ∷ []) ++ s)
-unfolding gap is_empty in_run is_word_byte is_letter is_digit
-gap_open [] p s = refl
-gap_open (b ∷ f) true s = refl
-gap_open (b ∷ f) false s = refl
 
 -- text in parentheses
 in_parens : (a t y : List ℕ) → (((a ++ 40 ∷ []) ++ t) ++ 41 ∷ []) ++ y ≡ a ++ (40 ∷ (t ++ (41 ∷ y)))
@@ -276,19 +251,11 @@ in_parens a t y = simp append_assoc
 in_spaced_parens : (t y : List ℕ) → ((32 ∷ 40 ∷ t) ++ 41 ∷ []) ++ y ≡ 32 ∷ 40 ∷ (t ++ (41 ∷ y))
 in_spaced_parens t y = ap (λ (x : List ℕ). 32 ∷ 40 ∷ x) (append_assoc t (41 ∷ []) y)
 
-gap_empty : (p : Bool) → gap [] p ≡ []
-unfolding gap is_empty
-gap_empty p = refl
-
 gap_apart : (f : List ℕ) (p : Bool) (s : List ℕ) → (is_empty f || not p) ≡ true → (is_empty f ≡ true → Apart s) → Apart (gap f p ++ s)
 unfolding gap is_empty in_run is_word_byte is_letter is_digit
 gap_apart [] p s h a = a refl
-gap_apart (b ∷ f) true s h a = absurd (false_true h)
+gap_apart (b ∷ f) true s h a = absurd (false≢true h)
 gap_apart (b ∷ f) false s h a = refl
-
-or_first : (a b : Bool) → a ≡ true → (a || b) ≡ true
-or_first true b e = refl
-or_first false b e = absurd (false_true e)
 
 layers_apart : (l : Layers (List ℕ)) (f : List ℕ) (p : Bool) (s : List ℕ) → (is_empty f || not p) ≡ true → Apart s → Apart (layers_text l f p ++ s)
 unfolding layers_text star before_count before_params brackets in_run is_word_byte is_letter is_digit
@@ -303,7 +270,7 @@ layers_apart (array n (pointer q l)) f p s h a =
 layers_apart (array n (array k l)) f p s h a =
     rw
     (append_assoc (gap f p ++ layers_text (array k l) f true) (brackets n) s, append_assoc (gap f p) (layers_text (array k l) f true) (brackets n ++ s))
-    (gap_apart f p (layers_text (array k l) f true ++ (brackets n ++ s)) h (λ e. layers_apart (array k l) f true (brackets n ++ s) (or_first (is_empty f) false e) refl))
+    (gap_apart f p (layers_text (array k l) f true ++ (brackets n ++ s)) h (λ e. layers_apart (array k l) f true (brackets n ++ s) (or_left (is_empty f) false e) refl))
 layers_apart (array n (proto ps l)) f p s h a =
     rw
     (append_assoc (((gap f p ++ 40 ∷ []) ++ layers_text (proto ps l) f true) ++ 41 ∷ []) (brackets n) s, in_parens (gap f p) (layers_text (proto ps l) f true) (brackets n ++ s))
@@ -329,7 +296,7 @@ pointer_lex (x ∷ q) l m ih p s a =
     let t : List ℕ = layers_text l (name_is m) false in
     ap (lex []) (three (star p) (quals_behind (x ∷ q)) t s)
     ∙ lex_star p (quals_behind (x ∷ q) ++ (t ++ s))
-    ∙ ap (λ (y : List Tok). mark 42 ∷ y) (lex_behind (x ∷ q) (t ++ s) (layers_apart l (name_is m) false s (or_true (is_empty (name_is m))) a))
+    ∙ ap (λ (y : List Tok). mark 42 ∷ y) (lex_behind (x ∷ q) (t ++ s) (layers_apart l (name_is m) false s (or-true (is_empty (name_is m))) a))
     ∙ ap (λ (y : List Tok). mark 42 ∷ qual_toks (x ∷ q) y) (ih false s a)
   where
     three : (a b c d : List ℕ) → ((a ++ b) ++ c) ++ d ≡ a ++ (b ++ (c ++ d))
@@ -367,7 +334,7 @@ array_lex n (array k l) m h t ok ih p s a =
     ∙ lex_gap f p (x ++ y)
     ∙ ih true y (brackets_apart n s)
     ∙ ap (toks (array k l) m) (lex_brackets n s h)
-array_lex n (proto ps l) m h t ok ih p s a = absurd (false_true t)
+array_lex n (proto ps l) m h t ok ih p s a = absurd (false≢true t)
 
 open_apart : (s : List ℕ) → Apart (40 ∷ s)
 unfolding in_run is_word_byte is_letter is_digit
@@ -387,8 +354,8 @@ proto_lex ps (pointer q l) m t ok ih ph p s a =
     ∙ lex_space (40 ∷ (x ++ (41 ∷ 40 ∷ y)))
     ∙ paren_lex (pointer q l) m ih (40 ∷ y)
     ∙ ap (λ (z : List Tok). mark 40 ∷ toks (pointer q l) m (mark 41 ∷ z)) (lex_open y ∙ ap (λ (z : List Tok). mark 40 ∷ z) (ph true s))
-proto_lex ps (array n l) m t ok ih ph p s a = absurd (false_true t)
-proto_lex ps (proto qs l) m t ok ih ph p s a = absurd (false_true t)
+proto_lex ps (array n l) m t ok ih ph p s a = absurd (false≢true t)
+proto_lex ps (proto qs l) m t ok ih ph p s a = absurd (false≢true t)
 
 closed_lex : ParamsLex closed
 unfolding params_text
@@ -447,7 +414,7 @@ written_tokens c w v ok =
     let q = c.quals in
     let ws = c.words in
     let y : List ℕ = layers_text c.layers w false in
-    let a : Apart (y ++ []) = layers_apart c.layers w false [] (or_true (is_empty w)) tt in
+    let a : Apart (y ++ []) = layers_apart c.layers w false [] (or-true (is_empty w)) tt in
     ap (lex []) (sym (append-nil (quals_before q ++ spaced ws ++ y)) ∙ append_assoc (quals_before q ++ spaced ws) y [] ∙ append_assoc (quals_before q) (spaced ws) (y ++ []))
     ∙ lex_before q (spaced ws ++ (y ++ []))
     ∙ ap (qual_toks q) (lex_spaced ws (y ++ []) v.base.spells a)

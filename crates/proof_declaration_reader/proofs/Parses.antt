@@ -5,13 +5,15 @@ use mathlib.Core.Path.{◌≡◌, refl, ap, ◌∙◌}
 use mathlib.Core.Bool.{Bool, true, false, ◌&&◌, ◌||◌}
 use mathlib.Core.List.{List, [], ◌∷◌}
 use native.Mathlib.Omega.{arith}
+use Rattle.std.proofs.lemmas.Bool.{and_parts}
 use Rattle.spec_c_dumper.specs.rules.Types.{Qualifier}
+use Rattle.spec_c_dumper.proofs.rules.Asking.{choose}
 use Rattle.session_declaration_reader.specs.grammar.Chain.{Layers, named, pointer, array, proto, Params, closed, dots, param, Chain, layer_entries, param_entries}
 use Rattle.session_declaration_reader.specs.tokens.Tokens.{Token, qual, word, number, mark, rest}
 use Rattle.session_declaration_reader.specs.grammar.Grammar.{Reads, reads, fails, and_then, read_base, wanted, wanted_name, wanted_count, declarator, suffixes, params, param_list, param_end}
 use Rattle.session_declaration_reader.specs.bases.Bases.{Spelt, distinct, begins, begins_word, bracketed, qual_run, after_quals, word_run, after_words, is_base, words_of, void_before}
 use Rattle.proof_declaration_reader.specs.Enough.{read_under}
-use Rattle.session_declaration_reader.proofs.tokens.Cases.{false_true, passed, failed}
+use Rattle.session_declaration_reader.proofs.tokens.Cases.{passed, failed}
 
 -- calls beside four an entry: a star needs no call of its own
 abbrev over : Bool → ℕ
@@ -25,15 +27,6 @@ over_least false = omega arith
 over_most : (b : Bool) → over b ≤ 2
 over_most true = omega arith
 over_most false = omega arith
-
-both_true : (a b : Bool) → (a && b) ≡ true → (a ≡ true) × (b ≡ true)
-both_true true b e = (refl, e)
-both_true false b e = absurd (false_true e)
-
--- a test, with what it found
-by_test : {R : Type 0} (P : R → Type 0) (b : Bool) (x y : R) → (b ≡ true → P x) → (b ≡ false → P y) → P (elim b [ true ↦ x | false ↦ y ])
-by_test P true x y h k = h refl
-by_test P false x y h k = k refl
 
 -- the words of each base of layers
 module _ {W : Type 0} (N : List W → Type 0) where
@@ -98,12 +91,12 @@ module _
 
       by_wanted : (m : ℕ) (ts : Ts) (k : Ts → Reads W A) → (begins m ts ≡ true → If P (k (rest ts))) → If P (wanted m ts k)
       unfolding wanted
-      by_wanted m ts k h = by_test (If P) (begins m ts) (k (rest ts)) fails h (λ e. tt)
+      by_wanted m ts k h = choose (If P) (begins m ts) (k (rest ts)) fails h (λ e. tt)
 
       by_name : (n : Bool) (ts : Ts) (k : Ts → Reads W A) → ((us : Ts) → ((j : Ts → Reads W A) → wanted_name n ts j ≡ j us) → (T ts → T us) → If P (k us)) → If P (wanted_name n ts k)
       unfolding wanted_name
       by_name false ts k h = h ts (λ j. refl) (λ t. t)
-      by_name true ts k h = by_test (If P) (begins_word ts) (k (rest ts)) fails (λ e. h (rest ts) (λ j. passed (begins_word ts) (j (rest ts)) fails e) (on ts)) (λ e. tt)
+      by_name true ts k h = choose (If P) (begins_word ts) (k (rest ts)) fails (λ e. h (rest ts) (λ j. passed (begins_word ts) (j (rest ts)) fails e) (on ts)) (λ e. tt)
 
       by_count : (ts : Ts) (k : ℕ → Ts → Reads W A) → ((m : ℕ) (us : Ts) → ((j : ℕ → Ts → Reads W A) → wanted_count ts j ≡ j m us) → (T ts → T us) → If P (k m us)) → If P (wanted_count ts k)
       unfolding wanted_count wanted rest
@@ -111,7 +104,7 @@ module _
       by_count (qual q ∷ ts) k h = tt
       by_count (word i w ∷ ts) k h = tt
       by_count (number m ∷ ts) k h =
-          by_test (If P) (begins 93 ts) (k m (rest ts)) fails (λ e. h m (rest ts) (λ j. passed (begins 93 ts) (j m (rest ts)) fails e) (λ t. on ts (on (number m ∷ ts) t))) (λ e. tt)
+          choose (If P) (begins 93 ts) (k m (rest ts)) fails (λ e. h m (rest ts) (λ j. passed (begins 93 ts) (j m (rest ts)) fails e) (λ t. on ts (on (number m ∷ ts) t))) (λ e. tt)
       by_count (mark b ∷ ts) k h = tt
 
       by_base : (n : Bool) (ts : Ts) (k : List Qualifier → List (Spelt W) → Ts → Reads W A)
@@ -122,7 +115,7 @@ module _
           let q : List Qualifier = qual_run ts in
           let ss : List (Spelt W) = word_run n (after_quals ts) in
           let us : Ts = after_words n (after_quals ts) in
-          by_test (If P) (distinct q && is_base ss) (k q ss us) fails (λ e. h q ss us (λ j. passed (distinct q && is_base ss) (j q ss us) fails e) (λ t. worded n (after_quals ts) (both_true (distinct q) (is_base ss) e).1 (past ts t))) (λ e. tt)
+          choose (If P) (distinct q && is_base ss) (k q ss us) fails (λ e. h q ss us (λ j. passed (distinct q && is_base ss) (j q ss us) fails e) (λ t. worded n (after_quals ts) (and_parts (distinct q) (is_base ss) e).1 (past ts t))) (λ e. tt)
 
     -- behind a star
     star_good : (n : Bool) (ts : Ts) (l : Layers W) (us : Ts) → begins 42 ts ≡ true → distinct (qual_run (rest ts)) ≡ true
@@ -145,7 +138,7 @@ module _
         record { more = go; all = λ t. let a = ih.all (on ts t) in sf.all (on us a.1) a.0 }
       where
         starred : begins 42 (rest ts) ≡ true
-        starred = (both_true (begins 40 ts) (begins 42 (rest ts)) br).1
+        starred = (and_parts (begins 40 ts) (begins 42 (rest ts)) br).1
 
         enough : (g : ℕ) → 4 * layer_entries l + 2 ≤ suc g → declarator g n (rest ts) ≡ reads k us
         enough g b = ih.more g (rw starred (omega (arith, sf.grows)))
@@ -283,11 +276,11 @@ module _
       pub declarator_good : (f : ℕ) (n : Bool) (ts : Ts) → If (Declared n ts) (declarator f n ts)
       declarator_good zero n ts = tt
       declarator_good (suc f) n ts =
-          by_test (If (Declared n ts)) (begins 42 ts) _ _
-          (λ h. by_test (If (Declared n ts)) (distinct (qual_run (rest ts))) _ _
+          choose (If (Declared n ts)) (begins 42 ts) _ _
+          (λ h. choose (If (Declared n ts)) (distinct (qual_run (rest ts))) _ _
           (λ d. by_then (Declared n ts) (Declared n (after_quals (rest ts))) (declarator f n (after_quals (rest ts))) _ (declarator_good f n (after_quals (rest ts))) (λ l us ih. star_good n ts l us h d ih))
           (λ d. tt))
-          (λ h. by_test (If (Declared n ts)) (bracketed ts) _ _
+          (λ h. choose (If (Declared n ts)) (bracketed ts) _ _
           (λ br. by_then (Declared n ts) (Declared n (rest ts)) (declarator f n (rest ts)) _ (declarator_good f n (rest ts))
           (λ k us ih. by_wanted (Declared n ts) 41 us _
           (λ w. onward (Suffixed k (rest us)) (Declared n ts) (suffixes f k (rest us)) (suffixes_good f k (rest us)) (λ l vs sf. bracket_good n ts k us l vs h br ih w sf))))
@@ -297,10 +290,10 @@ module _
       pub suffixes_good : (f : ℕ) (k : Layers W) (ts : Ts) → If (Suffixed k ts) (suffixes f k ts)
       suffixes_good zero k ts = tt
       suffixes_good (suc f) k ts =
-          by_test (If (Suffixed k ts)) (begins 91 ts) _ _
+          choose (If (Suffixed k ts)) (begins 91 ts) _ _
           (λ h. by_count (Suffixed k ts) (rest ts) _
           (λ m us w t. onward (Suffixed (array m k) us) (Suffixed k ts) (suffixes f (array m k) us) (suffixes_good f (array m k) us) (λ l vs sf. count_good k ts us m l vs h w t sf)))
-          (λ h. by_test (If (Suffixed k ts)) (begins 40 ts) _ _
+          (λ h. choose (If (Suffixed k ts)) (begins 40 ts) _ _
           (λ p. by_then (Suffixed k ts) (Opened (rest ts)) (params f (rest ts)) _ (params_good f (rest ts))
           (λ ps us o. onward (Suffixed (proto ps k) us) (Suffixed k ts) (suffixes f (proto ps k) us) (suffixes_good f (proto ps k) us) (λ l vs sf. proto_good k ts ps us l vs h p o sf)))
           (λ p. stop_good k ts h p))
@@ -308,14 +301,14 @@ module _
       pub params_good : (f : ℕ) (ts : Ts) → If (Opened ts) (params f ts)
       params_good zero ts = tt
       params_good (suc f) ts =
-          by_test (If (Opened ts)) (begins 41 ts) _ _ (λ h. empty_good ts h)
-          (λ h. by_test (If (Opened ts)) (void_before 41 ts) _ _ (λ v. void_good ts h v)
+          choose (If (Opened ts)) (begins 41 ts) _ _ (λ h. empty_good ts h)
+          (λ h. choose (If (Opened ts)) (void_before 41 ts) _ _ (λ v. void_good ts h v)
           (λ v. onward (Listed ts) (Opened ts) (param_list f ts) (param_list_good f ts) (λ ps us li. list_good ts ps us h v li)))
 
       pub param_list_good : (f : ℕ) (ts : Ts) → If (Listed ts) (param_list f ts)
       param_list_good zero ts = tt
       param_list_good (suc f) ts =
-          by_test (If (Listed ts)) (void_before 41 ts || void_before 44 ts) _ _ (λ v. tt)
+          choose (If (Listed ts)) (void_before 41 ts || void_before 44 ts) _ _ (λ v. tt)
           (λ v. by_base (Listed ts) false ts _
           (λ q ss us w t. by_then (Listed ts) (Declared false us) (declarator f false us) _ (declarator_good f false us)
           (λ l vs d. by_then (Listed ts) (Ended vs) (param_end f vs) _ (end_good f vs) (λ ps xs en. param_good ts q ss us l vs ps xs v w t d en))))
@@ -323,8 +316,8 @@ module _
       pub end_good : (f : ℕ) (ts : Ts) → If (Ended ts) (param_end f ts)
       end_good zero ts = tt
       end_good (suc f) ts =
-          by_test (If (Ended ts)) (begins 44 ts) _ _
-          (λ h. by_test (If (Ended ts)) (begins 46 (rest ts)) _ _
+          choose (If (Ended ts)) (begins 44 ts) _ _
+          (λ h. choose (If (Ended ts)) (begins 46 (rest ts)) _ _
           (λ d. by_wanted (Ended ts) 41 (rest (rest ts)) _ (λ w. dots_good ts h d w))
           (λ d. onward (Listed (rest ts)) (Ended ts) (param_list f (rest ts)) (param_list_good f (rest ts)) (λ ps us li. next_good ts ps us h d li)))
           (λ h. by_wanted (Ended ts) 41 ts _ (λ w. close_good ts h w))

@@ -34,9 +34,6 @@ abbrev mutual
   params_deep dots = 0
   params_deep (param q ws l ps) = max (suc (suc (deep l))) (params_deep ps)
 
-three : (a b c d : List ℕ) → a ++ ((b ++ c) ++ d) ≡ ((a ++ b) ++ c) ++ d
-three a b c d = simp append_assoc
-
 -- What writing comes to is told in two ways, by the same proof: with calls enough left it is that text; with any number left it is that text
 -- or it was refused. Is is what is told of it, Enough what is known of the calls left.
 abbrev Told : Type 0 → Type 1

@@ -1,16 +1,17 @@
 -- The tokens of a chain, and how they begin. Assumes nothing.
 use Prim.Native.Nat.{ℕ}
 use mathlib.Core.Path.{◌≡◌, refl, ap, sym, ◌∙◌}
-use mathlib.Core.Bool.{Bool, true, false, ◌&&◌}
+use mathlib.Core.Bool.{Bool, true, false, ◌&&◌, false≢true}
 use mathlib.Core.List.{List, [], ◌∷◌}
 use lib.Dec.{eqb}
+use Rattle.std.proofs.lemmas.Bool.{and_from}
 use Rattle.spec_c_dumper.specs.rules.Types.{Qualifier}
 use Rattle.session_declaration_reader.specs.grammar.Chain.{Layers, named, pointer, array, proto, Params, closed, dots, param}
 use Rattle.session_declaration_reader.specs.tokens.Tokens.{Kind, tag_word, void_word, other_word, Token, qual, word, number, mark, kind_of, rest}
 use Rattle.session_declaration_reader.specs.grammar.Grammar.{Reads, read_base}
 use Rattle.session_declaration_reader.specs.bases.Bases.{Spelt, spelt, begins, begins_word, bracketed, qual_run, after_quals, ends_name, word_run, after_words, single, is_base, words_of, void_before, distinct}
 use Rattle.proof_declaration_reader.specs.Written.{is_void, plain_void, no_layers, spelling, Base, Allowed, AllowedParams}
-use Rattle.session_declaration_reader.proofs.tokens.Cases.{false_true, passed}
+use Rattle.session_declaration_reader.proofs.tokens.Cases.{passed}
 
 abbrev pub Tok : Type 0
 Tok = Token (List ℕ)
@@ -99,7 +100,7 @@ param_stops (param q ws l ps) r = at_comma
 pub qual_run_lem : (q : List Qualifier) (t : List Tok) → begins_qual t ≡ false → qual_run (qual_toks q t) ≡ q
 unfolding qual_run
 qual_run_lem [] [] e = refl
-qual_run_lem [] (qual q ∷ t) e = absurd (false_true (sym e))
+qual_run_lem [] (qual q ∷ t) e = absurd (false≢true (sym e))
 qual_run_lem [] (word k w ∷ t) e = refl
 qual_run_lem [] (number n ∷ t) e = refl
 qual_run_lem [] (mark b ∷ t) e = refl
@@ -108,7 +109,7 @@ qual_run_lem (x ∷ q) t e = ap (λ (s : List Qualifier). x ∷ s) (qual_run_lem
 pub after_quals_lem : (q : List Qualifier) (t : List Tok) → begins_qual t ≡ false → after_quals (qual_toks q t) ≡ t
 unfolding after_quals
 after_quals_lem [] [] e = refl
-after_quals_lem [] (qual q ∷ t) e = absurd (false_true (sym e))
+after_quals_lem [] (qual q ∷ t) e = absurd (false≢true (sym e))
 after_quals_lem [] (word k w ∷ t) e = refl
 after_quals_lem [] (number n ∷ t) e = refl
 after_quals_lem [] (mark b ∷ t) e = refl
@@ -168,7 +169,7 @@ wordless : (t : List Tok) → begins_word t ≡ false → Left false t
 unfolding begins_word word_run after_words
 wordless [] e = record { no_words = refl; all_left = refl; no_name = refl }
 wordless (qual q ∷ t) e = record { no_words = refl; all_left = refl; no_name = refl }
-wordless (word k w ∷ t) e = absurd (false_true (sym e))
+wordless (word k w ∷ t) e = absurd (false≢true (sym e))
 wordless (number n ∷ t) e = record { no_words = refl; all_left = refl; no_name = refl }
 wordless (mark b ∷ t) e = record { no_words = refl; all_left = refl; no_name = refl }
 
@@ -179,7 +180,7 @@ unnamed_left l r s = wordless (toks l lacks r) (toks_word l r (stops_word s))
 -- a base begins with no mark
 pub base_mark : (b : ℕ) (q : List Qualifier) (ws : List (List ℕ)) (t : List Tok) → is_base (spelling ws) ≡ true → begins b (qual_toks q (word_toks ws t)) ≡ false
 unfolding is_base spelling begins
-base_mark b [] [] t h = absurd (false_true h)
+base_mark b [] [] t h = absurd (false≢true h)
 base_mark b [] (w ∷ ws) t h = refl
 base_mark b (x ∷ q) ws t h = refl
 
@@ -201,11 +202,11 @@ named_left (pointer q l) w r a e = record { no_words = refl; all_left = refl; no
 named_left (array n named) w r a e = named_left named w (mark 91 ∷ number n ∷ mark 93 ∷ r) tt refl
 named_left (array n (pointer q l)) w r a e = record { no_words = refl; all_left = refl; no_name = refl }
 named_left (array n (array k l)) w r a e = named_left (array k l) w (mark 91 ∷ number n ∷ mark 93 ∷ r) a.2 refl
-named_left (array n (proto ps l)) w r a e = absurd (false_true a.1)
+named_left (array n (proto ps l)) w r a e = absurd (false≢true a.1)
 named_left (proto ps named) w r a e = named_left named w (mark 40 ∷ param_toks ps true r) tt (params_end ps r a.1)
 named_left (proto ps (pointer q l)) w r a e = record { no_words = refl; all_left = refl; no_name = refl }
-named_left (proto ps (array k l)) w r a e = absurd (false_true a.2)
-named_left (proto ps (proto qs l)) w r a e = absurd (false_true a.2)
+named_left (proto ps (array k l)) w r a e = absurd (false≢true a.2)
+named_left (proto ps (proto qs l)) w r a e = absurd (false≢true a.2)
 
 -- a mark that begins no layer
 pub record Behind (m : ℕ) : Type 0 where
@@ -215,7 +216,7 @@ pub record Behind (m : ℕ) : Type 0 where
 
 toks_behind : (m : ℕ) → Behind m → (l : Layers (List ℕ)) (r : List Tok) → no_layers l ≡ false → begins m (toks l lacks r) ≡ false
 unfolding begins
-toks_behind m k named r e = absurd (false_true (sym e))
+toks_behind m k named r e = absurd (false≢true (sym e))
 toks_behind m k (pointer q l) r e = k.no_star
 toks_behind m k (array n named) r e = k.no_bracket
 toks_behind m k (array n (pointer q l)) r e = k.no_open
@@ -230,7 +231,7 @@ toks_behind m k (proto ps (proto qs l)) r e = toks_behind m k (proto qs l) (mark
 pub not_void : (m : ℕ) → Behind m → (q : List Qualifier) (ws : List (List ℕ)) (l : Layers (List ℕ)) (r : List Tok)
     → is_base (spelling ws) ≡ true → plain_void q (spelling ws) l ≡ false → void_before m (qual_toks q (word_toks ws (toks l lacks r))) ≡ false
 unfolding is_base spelling void_before plain_void is_void single begins
-not_void m b [] [] l r h e = absurd (false_true h)
+not_void m b [] [] l r h e = absurd (false≢true h)
 not_void m b [] (w ∷ []) l r h e = one (kind_of w) e
   where
     one : (k : Kind) → plain_void [] (spelt k w ∷ []) l ≡ false → void_before m (word k w ∷ toks l lacks r) ≡ false
@@ -251,10 +252,6 @@ at_41 = record { no_open = refl; no_star = refl; no_bracket = refl }
 pub at_44 : Behind 44
 at_44 = record { no_open = refl; no_star = refl; no_bracket = refl }
 
-both : (a b : Bool) → a ≡ true → b ≡ true → (a && b) ≡ true
-both true b e f = f
-both false b e f = absurd (false_true e)
-
 base_at : {A : Type 0} → (n : Bool) (ts u t : List Tok) (q : List Qualifier) (ss : List (Spelt (List ℕ))) (k : List Qualifier → List (Spelt (List ℕ)) → List Tok → Reads (List ℕ) A)
     → qual_run ts ≡ q → after_quals ts ≡ u → word_run n u ≡ ss → after_words n u ≡ t → distinct q ≡ true → is_base ss ≡ true → read_base n ts k ≡ k q ss t
 unfolding read_base
@@ -263,7 +260,7 @@ base_at n ts u t q ss k e₁ e₂ e₃ e₄ d b =
     (distinct (qual_run ts) && is_base (word_run n (after_quals ts)))
     (k (qual_run ts) (word_run n (after_quals ts)) (after_words n (after_quals ts)))
     _
-    (both (distinct (qual_run ts)) (is_base (word_run n (after_quals ts))) (rw e₁ d) (rw (e₂, e₃) b))
+    (and_from (distinct (qual_run ts)) (is_base (word_run n (after_quals ts))) (rw e₁ d) (rw (e₂, e₃) b))
     ∙ rw (e₁, e₂, e₃, e₄)
 
 words_qual : (ws : List (List ℕ)) (t : List Tok) → begins_qual t ≡ false → begins_qual (word_toks ws t) ≡ false

@@ -3,15 +3,18 @@ use Prim.Native.Nat.{ℕ, zero, suc, zero-le, ◌+◌, ◌≤◌, ◌<◌}
 use native.Mathlib.Omega.{arith}
 use native.Mathlib.Nat.{le_refl}
 use mathlib.Core.Path.{◌≡◌, refl, sym, ◌∙◌, ap, subst}
-use mathlib.Core.Bool.{Bool, true, false, true≢false, ◌||◌}
+use mathlib.Core.Bool.{Bool, true, false, ◌||◌}
 use mathlib.Core.List.{List, [], ◌∷◌, ◌++◌}
 use lib.ListN.{length, get_or, set, length-set, length-append}
 use lib.Dec.{ltb, leb, eqb}
-use borrow.Author.Tests.{leb-false, ltb-false, eqb-true, eqb-false, eq-eqb}
-use Rattle.spec_bytes.specs.words.Words.{one_more, pick}
+use borrow.Author.Tests.{leb-false, ltb-false, eqb-true, eqb-false}
+use Rattle.std.proofs.lemmas.Bool.{or_parts}
+use Rattle.spec_bytes.specs.words.Words.{one_more}
+use Rattle.spec_bytes.proofs.words.Laws.{more_is, more_some, more_least}
 use Rattle.spec_c_dumper.specs.rules.Types.{Name, Btf}
 use Rattle.spec_c_dumper.specs.rules.Machine.{Req}
-use Rattle.spec_c_dumper.specs.rules.Names.{Space, tag_space, ident_space, Holder, same_space, same_bytes, holds, holders, with_one}
+use Rattle.spec_c_dumper.specs.rules.Names.{Space, Holder, holds, holders, with_one}
+use Rattle.spec_c_dumper.proofs.rules.Names.{count_here, more_of}
 use Rattle.proof_two_headers.specs.Shared.{Account, Ledger, no_account, account, known, made, taking, passing, number_of}
 use Rattle.proof_two_headers.specs.Calls.{capacity, reserved, ledger_short, open_number, joined, begun, Part, Side, kernel, module', Call, opens, asks, World, part_of, with_part, lent, answered, opening, asking, called, calls, new_world}
 use Rattle.proof_two_headers.specs.Accounts.{used_all, AllHeld, Sound, Reached, here, takes, opened, Claim}
@@ -19,57 +22,7 @@ use Rattle.proof_two_headers.proofs.Keeps.{ledger_keeps}
 
 -- ---- one more holder
 
-pub more_least : (n : ℕ) → n ≤ one_more n
-unfolding one_more
-more_least n = go (ltb n 4294967295)
-  where
-    go : (b : Bool) → n ≤ pick b (n + 1) n
-    go true = omega arith
-    go false = omega arith
-
-pub more_some : (n : ℕ) → 1 ≤ one_more n
-unfolding one_more
-more_some n = go (ltb n 4294967295) refl
-  where
-    go : (b : Bool) → ltb n 4294967295 ≡ b → 1 ≤ pick b (n + 1) n
-    go true q = omega arith
-    go false q = omega (arith, ltb-false n 4294967295 q)
-
-pub more_is : (n : ℕ) → n < 4294967295 → one_more n ≡ n + 1
-unfolding one_more
-more_is n l = go (ltb n 4294967295) refl
-  where
-    go : (b : Bool) → ltb n 4294967295 ≡ b → pick b (n + 1) n ≡ n + 1
-    go true q = refl
-    go false q = absurd (omega (arith, l, ltb-false n 4294967295 q))
-
-bytes_self : (x : List ℕ) → same_bytes x x ≡ true
-unfolding same_bytes
-bytes_self [] = refl
-bytes_self (a ∷ x) = ap (λ (t : Bool). elim t as (λ z. Bool) [ true ↦ same_bytes x x | false ↦ false ]) (eq-eqb a a refl) ∙ bytes_self x
-
-space_self : (s : Space) → same_space s s ≡ true
-space_self tag_space = refl
-space_self ident_space = refl
-
 module _ (space : Space) (name : Name) where
-  holds_self : (c : ℕ) → holds (record { space = space; name = name; count = c }) space name ≡ true
-  unfolding holds
-  holds_self c = ap (λ (t : Bool). elim t as (λ z. Bool) [ true ↦ same_bytes name name | false ↦ false ]) (space_self space) ∙ bytes_self name
-
-  abbrev more_of : Holder → Holder
-  more_of h = record { space = h.space; name = h.name; count = one_more h.count }
-
-  pub count_here : (l : List Holder) → holders (with_one l space name) space name ≡ one_more (holders l space name)
-  unfolding holders with_one holds one_more
-  count_here [] = ap (λ (t : Bool). elim t as (λ z. ℕ) [ true ↦ 1 | false ↦ 0 ]) (holds_self 1)
-  count_here (h ∷ l) = go (holds h space name) refl (count_here l)
-    where
-      go : (b : Bool) → holds h space name ≡ b → holders (with_one l space name) space name ≡ one_more (holders l space name)
-          → holders (elim b as (λ z. List Holder) [ true ↦ more_of h ∷ l | false ↦ h ∷ with_one l space name ]) space name ≡ one_more (elim b as (λ z. ℕ) [ true ↦ h.count | false ↦ holders l space name ])
-      go true e i = ap (λ (t : Bool). elim t as (λ z. ℕ) [ true ↦ one_more h.count | false ↦ holders l space name ]) e
-      go false e i = ap (λ (t : Bool). elim t as (λ z. ℕ) [ true ↦ h.count | false ↦ holders (with_one l space name) space name ]) e ∙ i
-
   -- no count falls
   pub grows : (space' : Space) (name' : Name) (l : List Holder) → holders l space' name' ≤ holders (with_one l space name) space' name'
   unfolding holders with_one holds
@@ -196,16 +149,12 @@ module _ (k : ℕ) (space : Space) (name : Name) (L : Ledger) (h : Sound L) wher
       go true e q = made_sound (eqb-true (holders L.entries space name) 0 e) (leb-false (account L k).reserve (account L k).used q)
       go false e q = known_sound (eqb-false (holders L.entries space name) 0 e)
 
-or_false : (a b : Bool) → (a || b) ≡ false → (a ≡ false) × (b ≡ false)
-or_false true b e = absurd (true≢false e)
-or_false false b e = (refl, e)
-
 joined_sound : (L : Ledger) (reserve : ℕ) → ledger_short L reserve ≡ false → Sound L → Sound (joined L reserve)
 unfolding ledger_short
 joined_sound L reserve e h =
     let a : Account = record { reserve = reserve; used = 0 } in
-    let q = (or_false (ltb L.words 16) (leb 2 (length L.accounts) || ltb (capacity L) (reserved L.accounts + reserve)) e).1 in
-    let q₂ = or_false (leb 2 (length L.accounts)) (ltb (capacity L) (reserved L.accounts + reserve)) q in
+    let q = (or_parts (ltb L.words 16) (leb 2 (length L.accounts) || ltb (capacity L) (reserved L.accounts + reserve)) e).1 in
+    let q₂ = or_parts (leb 2 (length L.accounts)) (ltb (capacity L) (reserved L.accounts + reserve)) q in
     sound_of (joined L reserve)
     (get_d_joined L.accounts a zero-le h.within)
     (used_joined L.accounts a ∙ add_zero (used_all L.accounts) ∙ h.charged_once)

@@ -14,7 +14,7 @@ use Rattle.spec_c_dumper.specs.rules.Order.{new}
 use Rattle.spec_c_dumper.specs.rules.Writer.{Said, said}
 use Rattle.spec_c_dumper.specs.rules.Layout.{smaller}
 use Rattle.spec_c_dumper.specs.rules.Types.{Name, Btf}
-use Rattle.spec_c_dumper.specs.rules.Names.{Space, ident_space, Resolved, Naming, Names, naming, holders, with_one, type_version, value_version}
+use Rattle.spec_c_dumper.specs.rules.Names.{Space, ident_space, Resolved, Naming, Names, naming, with_one, type_version, value_version}
 use Rattle.spec_c_dumper.specs.rules.Emit.{definition, forward}
 use Rattle.spec_c_dumper.proofs.rules.Related.{RelSaid, same, RelResolved, RelNaming, rel_definition, rel_forward}
 use Rattle.spec_c_dumper.specs.needs.Lists.{Piece, defines, other, Line, cannot, Ls, put_line, list_store}
@@ -22,12 +22,13 @@ use Rattle.spec_c_dumper.specs.needs.Session.{Known, fitting, line_of}
 use Rattle.spec_c_dumper.proofs.needs.Lists.{Sized}
 use Rattle.spec_c_dumper.proofs.needs.Alike.{AlikeStore}
 use Rattle.proof_two_headers.specs.Steps.{Steps, told, definition_steps, forward_steps}
-use Rattle.proof_two_headers.specs.Shared.{Ledger, of_type, Held, giving, taking, type_shared, value_shared, sharing, number_of, Played, played, broken, play, play_line, Shelf, holding, played_on, line_on}
+use Rattle.proof_two_headers.specs.Shared.{of_type, Held, giving, taking, type_shared, value_shared, sharing, number_of, Played, played, broken, play, play_line, Shelf, holding, played_on, line_on}
 use Rattle.proof_two_headers.specs.Lines.{ButNumbers, SameLine, same_body, same_other, SameLines, no_line, next_line}
 use Rattle.proof_two_headers.proofs.Steps.{AnyValue}
 use Rattle.proof_two_headers.proofs.Told.{AnyType, type_fits, any_table, definition_told, forward_told, SameEnd, both_whole, both_cut, definition_ends, forward_ends}
 use Rattle.proof_two_headers.proofs.Play.{PlaysAs, over, fits, cuts, full, plays_as}
 use Rattle.proof_two_headers.proofs.Emission.{BothEnd, both_went, both_halted, left_free, right_free, AlikeBoard}
+use Rattle.proof_two_headers.proofs.Accounts.{taking_entries}
 
 -- ---- a line with its room
 
@@ -133,17 +134,6 @@ Never e = ⊥
 
 abbrev pub Whole : ℕ → Shelf → Ls (Known Names) → Type 0
 Whole n s t = Like (λ x. x) (λ l. l) (λ l m. Unit {0}) SameNames n s t
-
-taking_entries : (k : ℕ) (L : Ledger) (space : Space) (name : Name) → (taking k L space name).entries ≡ with_one L.entries space name
-unfolding taking
-taking_entries k L space name = go (eqb (holders L.entries space name) 0)
-  where
-    go : (b : Bool) → (elim b as (λ x. Ledger) [
-      | true ↦ record { words = L.words; entries = with_one L.entries space name; accounts = set L.accounts k (record { reserve = (get_or L.accounts k (record { reserve = 0; used = 0 })).reserve; used = (get_or L.accounts k (record { reserve = 0; used = 0 })).used + 1 }) }
-      | false ↦ record { words = L.words; entries = with_one L.entries space name; accounts = L.accounts }
-    ]).entries ≡ with_one L.entries space name
-    go true = refl
-    go false = refl
 
 abbrev names_of : Held → Names
 names_of h = record { versions = h.versions; ledger = h.ledger.entries }

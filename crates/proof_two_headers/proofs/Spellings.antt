@@ -5,12 +5,12 @@ use mathlib.Core.Path.{◌≡◌, refl, sym, ◌∙◌, ap, subst}
 use mathlib.Core.Bool.{Bool, true, false}
 use mathlib.Core.List.Memᴰ
 use mathlib.Core.List.{List, [], ◌∷◌, ◌++◌, Memᴰ, append_cancel_left}
-use mathlib.Core.Logic.{◌⊎◌, inl, inr, ⊎_elim}
+use mathlib.Core.Logic.{⊎_elim}
 use lib.ListN.{length, length-append, get_or, set, replicate}
 use lib.Dec.{eqb}
-use borrow.Author.Tests.{le-ltb, lt-ltb}
+use Rattle.std.proofs.lemmas.Bool.{cases_lt}
 use Rattle.spec_bytes.specs.words.Words.{one_more}
-use Rattle.spec_bytes.proofs.words.Laws.{le_or_lt}
+use Rattle.spec_bytes.proofs.words.Laws.{more_is, more_some, more_least, get_replicate, set_one}
 use Rattle.spec_bytes.specs.text.Text.{ascii}
 use Rattle.spec_bytes.specs.text.Decimal.{decimal}
 use Rattle.spec_bytes.proofs.text.Digits.{horner, decimal_is}
@@ -18,22 +18,15 @@ use Rattle.spec_c_dumper.specs.rules.Machine.{Req}
 use Rattle.spec_c_dumper.specs.rules.Types.{Name, Btf, name_of}
 use Rattle.spec_c_dumper.specs.rules.Names.{Space, ident_space, Resolved, Holder, spelled, holders, with_one}
 use Rattle.spec_c_dumper.specs.needs.Lists.{afresh}
+use Rattle.spec_c_dumper.proofs.rules.Names.{spelled_later, spelled_low, count_here}
 use Rattle.proof_two_headers.specs.Shared.{Ledger, Who, of_type, of_value, Given, Held, over, giving, number_of, taking, passing, type_shared, value_shared, type_passes}
 use Rattle.proof_two_headers.specs.Calls.{Side, kernel, module', Call, opens, asks, World, part_of, lent, open_number, opening, asking, called, calls, new_world}
 use Rattle.proof_two_headers.specs.Spellings.{given_in, spelling, SameName, Otherwise, AllOtherwise, Got, Few, space_of, version_in, Unlike, Claim}
 use Rattle.proof_two_headers.proofs.Asks.{Own, table_own}
 use Rattle.proof_two_headers.proofs.Keeps.{answer_keeps}
-use Rattle.proof_two_headers.proofs.Accounts.{more_least, more_some, more_is, count_here, grows, taking_entries}
+use Rattle.proof_two_headers.proofs.Accounts.{grows, taking_entries}
 
 -- ---- spellings tell numbers apart
-
-spelled_later : (name : Name) (n : ℕ) → 2 ≤ n → spelled name n ≡ name ++ ascii "___" ++ decimal n
-unfolding spelled
-spelled_later name n h = ap (λ (t : Bool). elim t as (λ w. Name) [ true ↦ name | false ↦ name ++ ascii "___" ++ decimal n ]) (le-ltb n 2 h)
-
-spelled_first : (name : Name) (n : ℕ) → n < 2 → spelled name n ≡ name
-unfolding spelled
-spelled_first name n h = ap (λ (t : Bool). elim t as (λ w. Name) [ true ↦ name | false ↦ name ++ ascii "___" ++ decimal n ]) (lt-ltb n 2 h)
 
 -- a name is not itself with more after it
 no_more : (name : Name) (n : ℕ) → name ≡ name ++ ascii "___" ++ decimal n → ⊥
@@ -44,8 +37,8 @@ no_more name n e =
     omega (arith, a, b, c)
 
 one_number : (name : Name) (n m : ℕ) → 1 ≤ n → 1 ≤ m → n ≤ 4294967295 → m ≤ 4294967295 → spelled name n ≡ spelled name m → n ≡ m
-one_number name n m p q k l e = ⊎_elim (λ a. ⊎_elim (both a) (λ b. absurd (no_more name n (sym (spelled_first name m b) ∙ sym e ∙ spelled_later name n a))) (le_or_lt 2 m))
-    (λ a. ⊎_elim (λ b. absurd (no_more name m (sym (spelled_first name n a) ∙ e ∙ spelled_later name m b))) (λ b. omega (arith, a, b, p, q)) (le_or_lt 2 m)) (le_or_lt 2 n)
+one_number name n m p q k l e = ⊎_elim (λ a. ⊎_elim (λ b. omega (arith, a, b, p, q)) (λ b. absurd (no_more name m (sym (spelled_low name n a) ∙ e ∙ spelled_later name m b))) (cases_lt m 2))
+    (λ a. ⊎_elim (λ b. absurd (no_more name n (sym (spelled_low name m b) ∙ sym e ∙ spelled_later name n a))) (both a) (cases_lt m 2)) (cases_lt n 2)
   where
     both : 2 ≤ n → 2 ≤ m → n ≡ m
     both a b =
@@ -91,7 +84,7 @@ swap C D vs l ws m E p = record {
 
 -- the number that no holder has yet, but for the largest
 stuck : (n : ℕ) → one_more n ≤ n → 4294967295 ≤ one_more n
-stuck n h = ⊎_elim (λ a. at_least a (more_least n)) (λ a. absurd (less (more_is n a))) (le_or_lt 4294967295 n)
+stuck n h = ⊎_elim (λ a. absurd (less (more_is n a))) (λ a. at_least a (more_least n)) (cases_lt n 4294967295)
   where
     at_least : 4294967295 ≤ n → n ≤ one_more n → 4294967295 ≤ one_more n
     at_least a b = omega (arith, a, b)
@@ -149,13 +142,6 @@ module _ (C D : Btf) (vs : List ℕ) (l : List Given) (ws : List ℕ) (m : List 
     got_still : (id v : ℕ) → Got C id v l → Got C id v (new_one ∷ l)
     got_still id v g = record { what = g.what; is_given = Memᴰ.tail g.is_given; its_id = g.its_id; its_space = g.its_space; its_name = g.its_name; its_number = g.its_number }
 
-set_cases : (l : List ℕ) (i v j : ℕ) → ((j ≡ i) × (get_or (set l i v) j 0 ≡ v)) ⊎ (get_or (set l i v) j 0 ≡ get_or l j 0)
-set_cases [] i v j = inr refl
-set_cases (x ∷ l) zero v zero = inl (refl, refl)
-set_cases (x ∷ l) zero v (suc j) = inr refl
-set_cases (x ∷ l) (suc i) v zero = inr refl
-set_cases (x ∷ l) (suc i) v (suc j) = ⊎_elim (λ q. inl (ap suc q.0, q.1)) (λ q. inr q) (set_cases l i v j)
-
 -- ---- one session's names, beside the other's
 
 module _ (C D : Btf) (ws : List ℕ) (m : List Given) where
@@ -174,16 +160,18 @@ module _ (C D : Btf) (ws : List ℕ) (m : List Given) where
       on_entries k h.ledger space name _ _ (gave C D h.versions h.given ws m h.ledger.entries p space name (of_type id) (set h.versions id (number_of h.ledger space name)) ts)
     where
       ts : (j : ℕ) → (get_or (set h.versions id (number_of h.ledger space name)) j 0 ≡ 0 → ⊥) → Got C j (get_or (set h.versions id (number_of h.ledger space name)) j 0) (giving space (of_type id) name h)
-      ts j n = ⊎_elim (λ q. record {
-        what = record { space = space; who = of_type id; name = name; number = number_of h.ledger space name };
-        is_given = Memᴰ.head refl;
-        its_id = ap of_type (sym q.0);
-        its_space = f.0 ∙ ap (λ (x : ℕ). space_of (C.type_by_id x)) (sym q.0);
-        its_name = f.1 ∙ ap (λ (x : ℕ). name_of (C.type_by_id x)) (sym q.0);
-        its_number = sym q.1;
-      })
+      ts j n = ⊎_elim
           (λ q. subst (λ (x : ℕ). Got C j x (giving space (of_type id) name h)) (sym q)
-          (got_still C D h.versions h.given ws m h.ledger.entries p space name (of_type id) j (get_or h.versions j 0) (p.types₁ j (λ e. n (q ∙ e))))) (set_cases h.versions id (number_of h.ledger space name) j)
+          (got_still C D h.versions h.given ws m h.ledger.entries p space name (of_type id) j (get_or h.versions j 0) (p.types₁ j (λ e. n (q ∙ e)))))
+          (λ q. record {
+            what = record { space = space; who = of_type id; name = name; number = number_of h.ledger space name };
+            is_given = Memᴰ.head refl;
+            its_id = ap of_type (sym q.0);
+            its_space = f.0 ∙ ap (λ (x : ℕ). space_of (C.type_by_id x)) (sym q.0);
+            its_name = f.1 ∙ ap (λ (x : ℕ). name_of (C.type_by_id x)) (sym q.0);
+            its_number = sym q.1;
+          })
+          (set_one h.versions id (number_of h.ledger space name) j)
 
   type_kept : (k : ℕ) (space : Space) (id : ℕ) (name : Name) (h : Held) → Own C space id name → Beside h → type_passes k space id name h ≡ false → Beside (type_shared k space id name h).names
   unfolding type_shared
@@ -219,16 +207,11 @@ turn B W g = swap (B kernel) (B module') (names_in W kernel).versions (names_in 
 turn_back : (B : Side → Btf) (W : World) → Turned B W → Good B W
 turn_back B W g = swap (B module') (B kernel) (names_in W module').versions (names_in W module').given (names_in W kernel).versions (names_in W kernel).given W.ledger.entries g
 
-no_version : (n id : ℕ) → get_or {A = ℕ} (replicate n 0) id 0 ≡ 0
-no_version zero id = refl
-no_version (suc n) zero = refl
-no_version (suc n) (suc id) = no_version n id
-
 afresh_beside : (C D : Btf) (n : ℕ) (vs : List ℕ) (l : List Given) (ws : List ℕ) (m : List Given) (E : List Holder) → Pair C D vs l ws m E → Pair C D (replicate n 0) [] ws m E
 afresh_beside C D n vs l ws m E p = record {
   own₁ = tt;
   own₂ = p.own₂;
-  types₁ = λ id h. absurd (h (no_version n id));
+  types₁ = λ id h. absurd (h (get_replicate {A = ℕ} 0 n id));
   types₂ = p.types₂;
   bound₁ = λ a i. absurd (Memᴰ.not-nil i);
   bound₂ = p.bound₂;

@@ -30,7 +30,8 @@ fn is_open(s: Session, len: usize) -> bool
     s.section_len == len as u64
 }
 
-// Whether a given id is not below the count. (By index: std has no lemma of the pieces that chunks_exact gives.)
+// Whether a given id is not below the count. (By index, as the definition has it: by as_chunks, tried, each piece needs
+// from_le_bytes, and the proof a law that the pieces are the words that get_word reads.)
 fn is_past(given: &[u8], count: u32) -> bool
     ensures { result ≡ any_past count (words given.now) }
 {

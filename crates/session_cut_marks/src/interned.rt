@@ -7,4 +7,4 @@ pub use crate::interned::slots::{Slot, find};
 // Slots of the table; SLOTS says of a place that it is none.
 pub const SLOTS: u32 = 262144;
 
-pub const SLOTS_LEN: usize = 262144;
+pub const SLOTS_LEN: usize = SLOTS as usize;

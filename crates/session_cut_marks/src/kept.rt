@@ -6,7 +6,8 @@ ghost use Rattle.session_cut_marks.specs.tags.Tags.{some_number};
 use base_bytes::element::peek;
 use btf_open_causes::references::{Entry, Index};
 
-// A section with the index of its records, and the new id of each type: 0 for what is not kept (fixed memory).
+// A section with the index of its records, and the new id of each type: 0 for what is not kept (fixed memory). (By type as the index is,
+// and no array of both: the index is there before any id is known, and opening makes it too, where nothing has a new id.)
 #[derive(Clone, Copy)]
 pub struct Kept<'a> {
     pub index: Index<'a>,

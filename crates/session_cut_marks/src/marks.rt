@@ -81,7 +81,7 @@ impl Marking<'_> {
         }
     }
 
-    // The given ids, four bytes each, least significant first. (By index: std has no lemma of the pieces that chunks_exact gives.)
+    // The given ids, four bytes each, least significant first. (By index, as the definition has it: see `is_past` of session_cut.)
     fn push_given(&mut self, given: &[u8])
         ensures turned { heap_of self.new
             ≡ pushed_to (get_word given.now) (heap_of self.old) (length given.now / 4) }

@@ -7,7 +7,8 @@ use btf_type_table::kind::vlen_of;
 use btf_type_table::table::Table;
 use spec_type_table::Kind;
 
-// The words that every record of its kind has.
+// The words that every record of its kind has. (Not by btf_type_table's `extra_of`: that tells bytes by the kind of an info word, and none
+// for void and where there is no such kind. Here the kind is the entry's, and the words of those two are 3 and 0.)
 fn fixed_words(e: Entry) -> u32
     ensures { result ≡ fixed_words (e.word % 32) }
 {

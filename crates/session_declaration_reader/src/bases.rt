@@ -4,7 +4,7 @@ mod items;
 ghost use Rattle.std.specs.Prelude.{◌≡◌, true, false};
 ghost use Rattle.session_declaration_reader.specs.bases.Bases.{ends_name, bracketed, no_tags, is_base, word_run, void_before};
 ghost use Rattle.session_declaration_reader.specs.tokens.Looking.{tokens_from};
-ghost use Rattle.session_declaration_reader.specs.bases.Looking.{BaseWord, Third, QualsAt};
+ghost use Rattle.session_declaration_reader.specs.bases.Looking.{BaseWord, QualsAt};
 ghost use Rattle.session_declaration_reader.specs.bases.Looking.{AfterWords, BaseAt};
 
 pub use crate::bases::items::{Chain, Entry};
@@ -34,55 +34,29 @@ struct Words {
 }
 
 impl Cursor<'_> {
-    // A third qualifier, which ends here, behind two that differ. (With this in quals_at, that would pass 40 lines.)
-    fn three_quals(self, a: Qualifier, b: Qualifier, c: Qualifier) -> Option<Quals>
-        ensures { Third self.entry.text.now a b c self.entry.at result }
-    {
-        if a == c || b == c {
-            return None;
-        }
-        let t = self.token();
-        if let TokenKind::Qualifier(_) = t.kind {
-            return None;
-        }
-        Some(Quals {
-            list: [Some(a), Some(b), Some(c)],
-            end: self.at,
-        })
-    }
-
     // None where a qualifier stands twice.
     pub fn quals_at(self) -> Option<Quals>
         ensures { QualsAt self.entry.text.now self.entry.at result }
     {
-        let t = self.token();
-        let TokenKind::Qualifier(a) = t.kind else {
-            return Some(Quals {
-                list: [None, None, None],
-                end: self.at,
-            });
-        };
-        let second = Cursor { at: t.end, ..self };
-        let u = second.token();
-        let TokenKind::Qualifier(b) = u.kind else {
-            return Some(Quals {
-                list: [Some(a), None, None],
-                end: t.end,
-            });
-        };
-        if a == b {
+        let mut list = [None; 3];
+        let mut end = self.at;
+        for i in 0..3 {
+            let t = (Cursor { at: end, ..self }).token();
+            let TokenKind::Qualifier(q) = t.kind else {
+                return Some(Quals { list, end });
+            };
+            if list.contains(&Some(q)) {
+                return None;
+            }
+            list[i] = Some(q);
+            end = t.end;
+        }
+        // There are three of them, so that a fourth stands twice.
+        let t = (Cursor { at: end, ..self }).token();
+        if let TokenKind::Qualifier(_) = t.kind {
             return None;
         }
-        let third = Cursor { at: u.end, ..self };
-        let v = third.token();
-        let TokenKind::Qualifier(c) = v.kind else {
-            return Some(Quals {
-                list: [Some(a), Some(b), None],
-                end: u.end,
-            });
-        };
-        let behind = Cursor { at: v.end, ..self };
-        behind.three_quals(a, b, c)
+        Some(Quals { list, end })
     }
 
     // Whether the word before this place is the declared name.
@@ -111,7 +85,8 @@ impl Cursor<'_> {
         Some(t)
     }
 
-    // The words of the base. (No `successors`: std takes those to be endless, so that nothing that walks them to their end is proved.)
+    // The words of the base. (No `successors`: `for` and what else goes to an iterator's end ask that what remains is finite, and std says
+    // of that one that it is endless.)
     fn words(self, named: bool) -> Words
         ensures end { AfterWords self.entry.text.now self.entry.at named result.end }
         ensures no_tags { result.no_tags ≡ no_tags (word_run named (tokens_from self.entry)) }

@@ -53,21 +53,17 @@ fn identifier(run: &[u8]) -> bool
     is_letter(*first) && rest.iter().all(|b| is_word_byte(*b))
 }
 
-// The value of a count.
+// The value of a count. (`parse` by itself takes a sign and leading zeros.)
 fn count_value(run: &[u8]) -> Option<u32>
     ensures { result ≡ count_value run.now }
 {
     if let [] | [b'0', _, ..] = run {
         return None;
     }
-    let mut v: u32 = 0;
-    for b in run {
-        if !b.is_ascii_digit() {
-            return None;
-        }
-        v = v.checked_mul(10)?.checked_add((*b - b'0') as u32)?;
+    if !run.iter().all(|b| b.is_ascii_digit()) {
+        return None;
     }
-    Some(v)
+    str::from_utf8(run).ok()?.parse().ok()
 }
 
 // An identifier that is no qualifier. (With word_kind as one function it is proved too, but the attribute that opens three definitions

@@ -59,13 +59,14 @@ fn walk(b: &Table, work: &[u8], path: &mut [u8], id: u32, bit: u32, n: u32) -> R
         ≡ written path.old n (path_from (512 - n) (btf_of b.now.head b.now.section.now work.now) id bit) }
 {
     let shape = behind(b, work, id, limit::MOST_CALLS);
-    let step = next_step(b, work, shape, bit)?;
+    let Some(step) = next_step(b, work, shape, bit)? else {
+        return Ok(n);
+    };
+    if n == limit::MOST_CALLS {
+        return Err(Refusal::TooDeep);
+    }
     match step {
-        Step::Stay => Ok(n),
         Step::Field(k) => {
-            if n == limit::MOST_CALLS {
-                return Err(Refusal::TooDeep);
-            }
             put_entry(path, n, k, n + 1);
             Ok(n + 1)
         }
@@ -74,9 +75,6 @@ fn walk(b: &Table, work: &[u8], path: &mut [u8], id: u32, bit: u32, n: u32) -> R
             type_id,
             bit,
         } => {
-            if n == limit::MOST_CALLS {
-                return Err(Refusal::TooDeep);
-            }
             let len = walk(b, work, path, type_id, bit, n + 1)?;
             put_entry(path, n, entry, len);
             Ok(len)

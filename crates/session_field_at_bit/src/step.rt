@@ -24,36 +24,40 @@ pub enum Shape {
     Composite(BtfType),
 }
 
-// One step of the walk: no further; into an entry, to a type and a bit of it; to an entry that is a bit field. (No Option of a step: the
-// definition of a step has all three, and so has each use.)
+// One step of the walk: into an entry, to a type and a bit of it; to an entry that is a bit field. None: no further.
 #[derive(Clone, Copy)]
 pub enum Step {
-    Stay,
     Enter { entry: u32, type_id: u32, bit: u32 },
     Field(u32),
 }
 
 // What member k says, where its bits end before `end`.
-fn member_step(m: BtfMember, k: u32, end: u32, bit: u32) -> Step
+fn member_step(m: BtfMember, k: u32, end: u32, bit: u32) -> Option<Step>
     ensures { step_is result ≡ member_step m k end bit }
 {
     let offset = m.bit_offset;
     if !(offset..end).contains(&bit) {
-        return Step::Stay;
+        return None;
     }
     let is_bit_field = m.bit_size != 0;
     if is_bit_field {
-        return Step::Field(k);
+        return Some(Step::Field(k));
     }
-    Step::Enter {
+    Some(Step::Enter {
         entry: k,
         type_id: m.type_id,
         bit: bit - offset,
-    }
+    })
 }
 
 // The same; its size is asked first.
-fn try_member(b: &Table, work: &[u8], m: BtfMember, k: u32, bit: u32) -> Result<Step, Refusal>
+fn try_member(
+    b: &Table,
+    work: &[u8],
+    m: BtfMember,
+    k: u32,
+    bit: u32,
+) -> Result<Option<Step>, Refusal>
     ensures { step_asked result
         ≡ ask_then (end_of (btf_of b.now.head b.now.section.now work.now) (rule_member b.now.head b.now.section.now m))
         (λ end. got (member_step m k end bit)) }
@@ -63,36 +67,35 @@ fn try_member(b: &Table, work: &[u8], m: BtfMember, k: u32, bit: u32) -> Result<
 }
 
 // The first member that covers the bit.
-fn find_member(b: &Table, work: &[u8], t: BtfType, bit: u32) -> Result<Step, Refusal>
+fn find_member(b: &Table, work: &[u8], t: BtfType, bit: u32) -> Result<Option<Step>, Refusal>
     ensures { step_asked result ≡ tried (btf_of b.now.head b.now.section.now work.now) bit 0 (members_of b.now.head b.now.section.now t) }
 {
     for k in 0..vlen_of(t.info) {
         let m = b.load_member(t, k);
-        match try_member(b, work, m, k, bit)? {
-            Step::Stay => {}
-            step => return Ok(step),
+        if let Some(step) = try_member(b, work, m, k, bit)? {
+            return Ok(Some(step));
         }
     }
-    Ok(Step::Stay)
+    Ok(None)
 }
 
 // The place in an array whose elements t have so many bytes.
-fn place_of(t: u32, size: u32, bit: u32) -> Step
+fn place_of(t: u32, size: u32, bit: u32) -> Option<Step>
     ensures { step_is result ≡ placed t size bit }
 {
     if size == 0 {
-        return Step::Stay;
+        return None;
     }
     let unit = u64::from(size) * 8;
     let at = u64::from(bit);
-    Step::Enter {
+    Some(Step::Enter {
         entry: (at / unit) as u32,
         type_id: t,
         bit: (at % unit) as u32,
-    }
+    })
 }
 
-fn find_place(b: &Table, work: &[u8], t: u32, bit: u32) -> Result<Step, Refusal>
+fn find_place(b: &Table, work: &[u8], t: u32, bit: u32) -> Result<Option<Step>, Refusal>
     ensures { step_asked result
         ≡ ask_then (get_size_of 512 (btf_of b.now.head b.now.section.now work.now) t) (λ size. got (placed t size bit)) }
 {
@@ -100,11 +103,11 @@ fn find_place(b: &Table, work: &[u8], t: u32, bit: u32) -> Result<Step, Refusal>
     Ok(place_of(t, size, bit))
 }
 
-pub fn next_step(b: &Table, work: &[u8], shape: Shape, bit: u32) -> Result<Step, Refusal>
+pub fn next_step(b: &Table, work: &[u8], shape: Shape, bit: u32) -> Result<Option<Step>, Refusal>
     ensures { step_asked result ≡ step_in (btf_of b.now.head b.now.section.now work.now) bit (shape_is b.now.head b.now.section.now shape) }
 {
     match shape {
-        Shape::Plain | Shape::Through(_) => Ok(Step::Stay),
+        Shape::Plain | Shape::Through(_) => Ok(None),
         Shape::Array(t) => find_place(b, work, t, bit),
         Shape::Composite(t) => find_member(b, work, t, bit),
     }

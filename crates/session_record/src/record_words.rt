@@ -36,7 +36,8 @@ pub fn number_or_value(a: Result<u32, Refusal>) -> u64
     number_and_value(a.map_err(|refusal| Refused { refusal, value: 0 }))
 }
 
-// Word i of the record. (By words of 32 bits: they ask nothing of the record's length, as a slice of eight bytes would.)
+// Word i of the record. (Two words of 32 bits, as the definition has it: first_chunk and from_le_bytes, or copy_from_slice of to_le_bytes,
+// pass over the half word at the end of a record of 12 bytes, so that neither equation holds without a case for it.)
 fn get_long(record: &[u8], i: usize) -> u64
     requires { i < 16 }
     ensures { result ≡ get_long «record».now i }

@@ -1,4 +1,7 @@
 // What the functions of a call share, and only read.
+// (What they write, work, text, list and leads, stays four parameters. As a struct of four `&mut`, tried at `end`, each function owes that
+// the fields keep their references; of a field's bytes none is known to be below 256, so that `end` did not prove; and a call that lends
+// two fields of such a local gets no generated proof.)
 ghost use Rattle.std.specs.Prelude.{◌≤◌};
 
 use crate::options::Options;

@@ -13,7 +13,8 @@ pub enum Wanted<'a> {
 }
 
 // What a call is told beside its ids: nothing; a ceiling on the calls of ordering, which its requests share; or that the lent list
-// gets an entry for each line. (The list stands beside it: it is zeroed without Listed too, and options are copied.)
+// gets an entry for each line. (The list stands beside it: the definition of a call zeroes a list that is lent without Listed too, and a
+// `&mut` in here could not be copied into the requests, which read their options while they write the list.)
 #[derive(Clone, Copy)]
 pub enum Options {
     Plain,

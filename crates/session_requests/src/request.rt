@@ -1,4 +1,6 @@
-// One request of a call, after those before it: plain, under a ceiling, or with an entry for each line.
+// One request of a call, after those before it: plain, under a ceiling, or with an entry for each line. (Ready is asked by each that lends
+// the leaders, of which ordering tells nothing after a refusal: so an owned struct of leaders and turn would have no invariant then. Fits
+// speaks of the text and the list, which are lent `&mut` too.)
 ghost use Rattle.std.specs.Prelude.{◌+◌, ◌*◌, ◌≡◌, take, None};
 ghost use Rattle.spec_c_dumper.specs.origins.Causes.{up_to, entries_in};
 ghost use Rattle.spec_session.specs.session.Turns.{visits_in};
@@ -20,7 +22,7 @@ use spec_session::session::Reached;
 impl Requests<'_> {
     // One request. It is lent of the text what follows that of the requests before it, and of the list what follows their entries.
     // `turn` tells it from the other requests of the call.
-    pub fn dump_one(
+    pub(crate) fn dump_one(
         &self,
         work: &mut [u8],
         text: &mut [u8],
@@ -77,7 +79,7 @@ impl Requests<'_> {
     }
 
     // The next of all ids, of which most have nothing to write. Its turn is the id itself.
-    pub fn dump_next(
+    pub(crate) fn dump_next(
         &self,
         work: &mut [u8],
         text: &mut [u8],

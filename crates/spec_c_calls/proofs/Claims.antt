@@ -10,6 +10,7 @@ use native.Mathlib.Nat.{le_refl}
 use lib.Dec.{eqb, ltb, leb}
 use lib.ListN.{length, take, get_or}
 use borrow.Author.Tests.{le-ltb, ltb-true, ltb-false}
+use Rattle.std.specs.Cmp.{first_so}
 use Rattle.spec_bytes.specs.words.Words.{get_word, put_word}
 use Rattle.spec_bytes.proofs.words.Laws.{get_put_same, get_put_other, put_length}
 use Rattle.spec_session.specs.session.Answers.{Refused, answer_of}
@@ -138,13 +139,9 @@ module _ (r : List ℕ) (h : 128 ≤ length r) where
   unfolding record_after record_refused
   kept_says_10 v w t small few = refl
 
-first_of : (p q : Bool) → p && q ≡ true → p ≡ true
-first_of true q e = refl
-first_of false q e = e
-
 current_open : (s : Session) (a b n : ℕ) → is_current s a b n ≡ true → s.«open» ≡ true
 unfolding is_current
-current_open s a b n e = first_of s.«open» (eqb s.section_len a && (eqb s.work_len b && leb s.text_len n)) e
+current_open s a b n e = first_so s.«open» (eqb s.section_len a && (eqb s.work_len b && leb s.text_len n)) e
 
 module _ (r section w t : List ℕ) (h : 128 ≤ length r) where
   -- the record after a request for one id, and for all

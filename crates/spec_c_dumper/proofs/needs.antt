@@ -16,3 +16,4 @@ pub mod Keeping
 pub mod Bodies
 pub mod Again
 pub mod Arrays
+pub mod Splits

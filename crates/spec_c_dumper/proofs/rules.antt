@@ -11,3 +11,5 @@ pub mod Placed
 pub mod Refusals
 pub mod Arrays
 pub mod Maps
+pub mod Asking
+pub mod Names

@@ -11,27 +11,14 @@ use mathlib.Core.WellFounded.Acc
 use lib.Dec.{eqb}
 use borrow.Author.Tests.{eqb-true}
 use Rattle.spec_c_dumper.specs.rules.Order.{Node, ignored, plain, listed, through, ptr, tdef, proto, comp, Table, is_comp, Mark, new, busy, done}
-use Rattle.spec_c_dumper.specs.rules.Machine.{Out, wrote, stuck, Machine, is_zero, pick, obind, eeach, once, mention, again, close, leaf, within, begin, allowed, look, emit}
+use Rattle.spec_c_dumper.specs.rules.Machine.{Out, Machine, is_zero, pick, obind, eeach, once, mention, again, close, leaf, within, begin, allowed, look, emit}
 use Rattle.spec_c_dumper.specs.needs.Needs.{kids}
 use Rattle.spec_c_dumper.proofs.needs.Placed.{is_def}
 use Rattle.spec_c_dumper.proofs.needs.Ways.{clash, clash_new, clash_busy, only}
-use Rattle.spec_declared_first.proofs.Splits.{nil_not, snoc_split}
+use Rattle.spec_c_dumper.proofs.origins.Keeps.{comes_bind, comes_map, Comes, comes, halts}
+use Rattle.spec_c_dumper.proofs.needs.Splits.{nil_not, snoc_split}
 use Rattle.spec_declared_first.proofs.Reach.{stops, Reach, at, on, is_leaf, Leaf, HasName, Ends, ends_once, reach_stop, reach_past, goes_on, nameless_on, named_stops}
 use Rattle.spec_declared_first.proofs.Ordering.{Due, Sorted, none, snoc}
-
--- what a line, or a call, comes to, if it is no refusal
-pub data Comes {M : Type 0} (Q : M → Type 0) : Out M → Type 0 where
-  comes : {s : M} → Q s → Comes Q (wrote s)
-  halts : {e : ℕ} → Comes Q (stuck e)
-
-pub comes_bind : {M : Type 0} {Q Q' : M → Type 0} {r : Out M} {k : M → Out M} → Comes Q r → ((s : M) → Q s → Comes Q' (k s)) → Comes Q' (obind r k)
-unfolding obind
-comes_bind (comes h) f = f _ h
-comes_bind halts f = halts
-
-pub comes_map : {M : Type 0} {Q Q' : M → Type 0} {r : Out M} → ((s : M) → Q s → Q' s) → Comes Q r → Comes Q' r
-comes_map f (comes h) = comes (f _ h)
-comes_map f halts = halts
 
 module _ {M : Type 0} (X : Machine M) (T : Table) (Good : M → Type 0) (Dec' : M → ℕ → Type 0) where
   -- a piece of type x was written: it declares x
@@ -230,7 +217,7 @@ module _ {M : Type 0} (X : Machine M) (T : Table) (Good : M → Type 0) (Dec' : 
     unfolding once
     once_ok w x P true s h l f k = comes (step_refl s h, f refl)
     once_ok w x P false s h l f k =
-        comes_bind k (λ s' q.
+        comes_bind _ k (λ s' q.
         let a : Step s s' = step_wrote x s s' h q in
         comes (step_then a (step_forwarded x s' a.held l q.self), inl (law.fwd_decs x s' q.good l x q.self)))
 
@@ -259,7 +246,7 @@ module _ {M : Type 0} (X : Machine M) (T : Table) (Good : M → Type 0) (Dec' : 
     leaf_ok : (s : M) (x : ℕ) (f b : Bool) → Held s → x < T.count → T.node x ≡ listed f → (T.named x ≡ true → b ≡ true) → Comes (λ s'. Step s s' × (eget s' x ≡ done)) (leaf X T b x s)
     unfolding leaf
     leaf_ok s x f true h l e k =
-        comes_bind (law.leaf_line s x f h.good l e) (λ s' q.
+        comes_bind _ (law.leaf_line s x f h.good l e) (λ s' q.
         let a : Step s s' = step_wrote x s s' h q in
         comes (step_then a (step_done x s' a.held l (λ w r n. all s' q.self w n (reach_past T x w (listed f) e r))), law.emark_same done x s' q.good l))
       where
@@ -281,7 +268,7 @@ module _ {M : Type 0} (X : Machine M) (T : Table) (Good : M → Type 0) (Dec' : 
       unfolding eeach
       eeach_ok cont nz [] s h l g = comes (record { step = step_refl s h; all = λ y m. absurd (Memᴰ.not-nil m) })
       eeach_ok cont nz (y ∷ ys) s h l g =
-          comes_bind (keeps s y cont h (l y (Memᴰ.head refl)) nz (g y (Memᴰ.head refl))) (λ s' p.
+          comes_bind _ (keeps s y cont h (l y (Memᴰ.head refl)) nz (g y (Memᴰ.head refl))) (λ s' p.
           comes_map (λ s'' q. record { step = step_then p.step q.step; all = λ z m. pick' s' p s'' q z (Memᴰ.cases_cons m) })
           (eeach_ok cont nz ys s' p.step.held (λ z m. l z (Memᴰ.tail m)) (λ z m. pre_step s s' z p.step (g z (Memᴰ.tail m)))))
         where
@@ -319,8 +306,8 @@ module _ {M : Type 0} (X : Machine M) (T : Table) (Good : M → Type 0) (Dec' : 
         typedef_ok : (top : Bool) (t : ℕ) → T.node x ≡ tdef t → eget s x ≡ new → Pre s x → Comes (λ s'. Step s s' × ((w : ℕ) → Reach T x w → HasName T w → Dec' s' w)) (begin X T rec s x cont top (tdef t))
         unfolding begin
         typedef_ok top t e n p =
-            comes_bind (keeps (emark busy x s) t x (held_busy x s h l) (down (tdef t) t e (Memᴰ.head refl)) (tdef_id x t e) (pre_busy s x t h.good l (ap is_leaf e) p open' mem))
-            (λ s' q. comes_bind (once_ok X.alias_line x ⊥ (X.has_fwd s' x) s' q.step.held l (λ u. inl (q.step.held.fw x u)) (law.alias_line s' x t q.step.held.good l e (target s' q)))
+            comes_bind _ (keeps (emark busy x s) t x (held_busy x s h l) (down (tdef t) t e (Memᴰ.head refl)) (tdef_id x t e) (pre_busy s x t h.good l (ap is_leaf e) p open' mem))
+            (λ s' q. comes_bind _ (once_ok X.alias_line x ⊥ (X.has_fwd s' x) s' q.step.held l (λ u. inl (q.step.held.fw x u)) (law.alias_line s' x t q.step.held.good l e (target s' q)))
             (λ s'' r. let c = closure s'' (sure s'' r.1) (λ w k o. r.0.decs w (target s' q w k o)) in
             comes (step_around done (λ u. clash done u refl) x s s'' h l n (step_then q.step r.0) (λ u. c), λ w k o. law.emark_decs done x s'' r.0.held.good l w (c w k o))))
           where
@@ -391,7 +378,7 @@ module _ {M : Type 0} (X : Machine M) (T : Table) (Good : M → Type 0) (Dec' : 
             comes_map (λ s' q. record { step = q.step; covered = covered_past s' x cont (proto ts) e (inl refl) q.all })
             (eeach_ok cont nz ts s h (λ y m. down (proto ts) y e m) (λ y m. pre_kid s x y p (goes_on T x (proto ts) e refl) (kid (proto ts) y e m)))
         begin_ok (comp ms) e nz n p =
-            comes_bind (inner ms e nz p (T.named x) refl) (λ s' q.
+            comes_bind _ (inner ms e nz p (T.named x) refl) (λ s' q.
             let a : Step s (emark new x s') = step_around new new_busy x s s' h l n q.0 (λ u. absurd (new_done u)) in
             comes (record { step = a; covered = λ w r k. up s' q.0.held.good w (q.1 w r k) }))
           where
@@ -469,7 +456,7 @@ module _ {M : Type 0} (X : Machine M) (T : Table) (Good : M → Type 0) (Dec' : 
       comp_top : (ms : List ℕ) → T.node x ≡ comp ms → T.named x ≡ true → eget s x ≡ new → Comes (TopPost x s) (obind (within X T rec_n s x 0 true (T.named x) ms) (close X T true x))
       unfolding within close
       comp_top ms e nm new_x =
-          comes_bind members (λ s' q. comes_bind (law.body_line s' x ms q.step.held.good d.below e nm (λ m w k r u. q.all m k w r u)) (λ s'' k.
+          comes_bind _ members (λ s' q. comes_bind _ (law.body_line s' x ms q.step.held.good d.below e nm (λ m w k r u. q.all m k w r u)) (λ s'' k.
           let a : Step (emark busy x s) s'' = step_then q.step (step_wrote x s' s'' q.step.held k) in
           comes (record {
             step = step_around done (λ u. clash done u refl) x s s'' t.held d.below new_x a (λ u w r v. subst (Dec' s'') (reach_stop T x w stop_x r) k.self);
@@ -547,7 +534,7 @@ module _ {M : Type 0} (X : Machine M) (T : Table) (Good : M → Type 0) (Dec' : 
     unfolding eeach
     emit_list n [] l s t o = comes (record { top = subst (λ (k : List ℕ). Top k s) (sym (append-nil l)) t; gets = λ d. refl })
     emit_list n (x ∷ todo) l s t o =
-        comes_bind (emit_top n l s x t (sorted_split o l todo x refl)) (λ s' p.
+        comes_bind _ (emit_top n l s x t (sorted_split o l todo x refl)) (λ s' p.
         comes_map (λ s'' q. record { top = q.top; gets = λ d. q.gets d ∙ p.step.gets d })
         (subst (λ (k : List ℕ). Comes (Listed k s') (eeach (λ m y. emit X T n m y 0) todo s')) (append_assoc l (x ∷ []) todo)
         (emit_list n todo (l ++ (x ∷ [])) s' (top_next l s x t s' p) (subst (Sorted T) (sym (append_assoc l (x ∷ []) todo)) o))))

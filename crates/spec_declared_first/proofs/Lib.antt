@@ -1,6 +1,5 @@
 pub mod Reach
 pub mod Ordering
-pub mod Splits
 pub mod Emission
 pub mod Kept
 pub mod Writers

@@ -14,9 +14,9 @@ use Rattle.spec_c_dumper.specs.rules.Placing.{body_packed, tail_pads}
 use Rattle.spec_c_dumper.specs.rules.Decl.{deeper, enum_value, enum64_value, emit_composite_fwd, emit_fwd_def, emit_enum_def, composite_head, composite_body, composite_def, emit_type_decl, emit_composite_def, emit_typedef_def}
 use Rattle.spec_c_dumper.specs.rules.Emit.{definition, shown, forward}
 use Rattle.spec_c_dumper.specs.needs.Needs.{kids}
+use Rattle.spec_c_dumper.proofs.needs.Splits.{nil_not}
 use Rattle.spec_declared_first.specs.Notes.{Mention, Asked, noting, Note}
 use Rattle.spec_declared_first.specs.Declared.{NoBuiltin, Key, key_of, keys_of, name_in, own_name, Declares, Above}
-use Rattle.spec_declared_first.proofs.Splits.{nil_not}
 use Rattle.spec_declared_first.proofs.Kept.{Keeping}
 use Rattle.spec_declared_first.proofs.Reach.{is_leaf}
 use Rattle.spec_declared_first.proofs.Writers.{Keeps, k_put, k_then, Open, members_open, k_enum_body, k_emit_members, k_composite_end, k_emit_type_decl}

@@ -19,12 +19,13 @@ use Rattle.spec_c_dumper.specs.rules.Emit.{definition, forward}
 use Rattle.spec_c_dumper.specs.needs.Needs.{kids}
 use Rattle.spec_c_dumper.specs.needs.Lists.{Piece, defines, other, Line, cannot, Ls, put_line}
 use Rattle.spec_c_dumper.specs.needs.Session.{Known, fitting, line_of}
+use Rattle.spec_c_dumper.proofs.origins.Keeps.{Comes, comes, halts}
+use Rattle.spec_c_dumper.proofs.needs.Splits.{nil_not, snoc_split}
 use Rattle.spec_declared_first.specs.Notes.{Mention, Asked, noting, Note, Seen, noted, unasked, noted_machine}
 use Rattle.spec_declared_first.specs.Declared.{NoBuiltin, Key, key_of, keys_of, own_name, Stands, bytes_of, Declares, Above, ItsTag, FitsBefore, DeclaredAbove}
-use Rattle.spec_declared_first.proofs.Splits.{nil_not, snoc_split}
 use Rattle.spec_declared_first.proofs.Reach.{stops, Reach, at, on, is_leaf, HasName}
 use Rattle.spec_declared_first.proofs.Ordering.{Steady}
-use Rattle.spec_declared_first.proofs.Emission.{Comes, comes, halts, Wrote, Noting}
+use Rattle.spec_declared_first.proofs.Emission.{Wrote, Noting}
 use Rattle.spec_declared_first.proofs.Writers.{Open}
 use Rattle.spec_declared_first.proofs.Kept.{Keeping}
 use Rattle.spec_declared_first.proofs.Renamed.{Shown, shown_forward, shown_definition}

@@ -8,10 +8,11 @@ use mathlib.Core.List.Memᴰ
 use mathlib.Core.List.{List, [], ◌∷◌, ◌++◌, append_assoc, Memᴰ}
 use mathlib.Core.Logic.{◌⊎◌, inl, inr, ◌≢◌}
 use mathlib.Core.WellFounded.Acc
+use Rattle.std.proofs.lemmas.Bool.{and_parts}
 use Rattle.spec_c_dumper.specs.rules.Order.{Node, ignored, plain, listed, through, ptr, tdef, proto, comp, Table, is_comp, Mark, new, busy, done, is_done, Store, Res, ok, refused, bind, each, meet, push_if, finish, enter, alias, fresh, visit, order}
 use Rattle.spec_c_dumper.specs.needs.Needs.{kids}
 use Rattle.spec_c_dumper.proofs.needs.Placed.{is_def}
-use Rattle.spec_c_dumper.proofs.needs.Ways.{clash, only, and_yes}
+use Rattle.spec_c_dumper.proofs.needs.Ways.{clash, only}
 use Rattle.spec_declared_first.proofs.Reach.{stops, Reach, is_leaf, Leaf, Ends, reach_stop, reach_past}
 
 -- a result, if it is no refusal
@@ -233,7 +234,7 @@ module _ {St : Type 0} (K : Store St) (T : Table) (Good : St → Type 0) (Fr : S
 
       -- a named composite, passed over
       skipped : is_comp (T.node x) ≡ true → (weak && T.named x) ≡ true → (b : Bool) → Post s x s b
-      skipped c e b = record { grown = same s i; met = met_stop T (whole s) x (ap (λ (k : Bool). k && T.named x) c ∙ (and_yes weak (T.named x) e).1) (no_leaf (T.node x) c) }
+      skipped c e b = record { grown = same s i; met = met_stop T (whole s) x (ap (λ (k : Bool). k && T.named x) c ∙ (and_parts weak (T.named x) e).1) (no_leaf (T.node x) c) }
         where
           no_leaf : (nd : Node) → is_comp nd ≡ true → is_leaf nd ≡ false
           no_leaf ignored q = refl

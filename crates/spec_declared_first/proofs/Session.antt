@@ -13,10 +13,11 @@ use Rattle.spec_c_dumper.specs.rules.Names.{Naming}
 use Rattle.spec_c_dumper.specs.needs.Needs.{WF}
 use Rattle.spec_c_dumper.specs.needs.Lists.{Ls, afresh}
 use Rattle.spec_c_dumper.proofs.needs.Ways.{clash_new, clash_busy}
+use Rattle.spec_c_dumper.proofs.origins.Keeps.{Comes, comes, halts}
 use Rattle.spec_declared_first.specs.Notes.{Seen, noted_machine, noted_opened, notes_by}
 use Rattle.spec_declared_first.specs.Declared.{NoBuiltin, DeclaredAbove}
 use Rattle.spec_declared_first.proofs.Ordering.{Met, Gives, gives, refuses, Sorted, none as unsorted, Inv, Post, order_ok}
-use Rattle.spec_declared_first.proofs.Emission.{Comes, comes, halts, Top, Listed, emit_list}
+use Rattle.spec_declared_first.proofs.Emission.{Top, Listed, emit_list}
 use Rattle.spec_declared_first.proofs.Kept.{Keeping}
 use Rattle.spec_declared_first.proofs.Noted.{Good, Told, Frame, noted_noting, noted_steady, declared_above, none}
 

@@ -3,27 +3,24 @@ use Prim.Native.Nat.{ℕ, zero, suc, zero-le, suc-le-suc, ◌+◌, ◌<◌, ◌�
 use mathlib.Core.Path.{◌≡◌, refl, ap, ◌∙◌, sym}
 use mathlib.Core.Bool.{Bool, true, ◌&&◌}
 use mathlib.Core.List.{List, [], ◌∷◌, ◌++◌, map}
-use mathlib.Core.Logic.{⊎_elim, ◌⊎◌, inl, inr, ◌↔◌}
+use mathlib.Core.Logic.{⊎_elim, ◌↔◌}
 use native.Mathlib.Omega.{arith}
 use lib.ListN.{length, drop, length-drop, length-append, drop_of_length-le}
 use lib.Seq.{drop-drop, drop-append_seam}
 use lib.Dec.{leb}
 use borrow.Author.Tests.{lt-ltb, le-ltb, le-leb, lt-leb, leb-true}
+use Rattle.std.proofs.lemmas.Bool.{cases_lt}
+use Rattle.std.specs.Cmp.{first_so, second_so}
 use Rattle.spec_linux_btf.specs.Documentation.{Every, Described, encode, encode_all, starts, Fits, Allowed}
 use Rattle.spec_linux_btf.specs.Reading.{Bytes, size_at, decode, sound, named, passes, places, type_at, decode_all, layout_sound}
 use Rattle.spec_linux_btf.proofs.Words.{bytes_drop}
-use Rattle.spec_linux_btf.proofs.Types.{and_left, and_right, type_again, type_size, type_sound, type_twelve, Sound, sound_parts, type_back, type_fits, type_names, names_type}
-
-pub le_or_lt : (a b : ℕ) → (a ≤ b) ⊎ (b < a)
-le_or_lt zero b = inl zero-le
-le_or_lt (suc a) zero = inr (suc-le-suc zero-le)
-le_or_lt (suc a) (suc b) = ⊎_elim (λ p. inl (suc-le-suc p)) (λ q. inr (suc-le-suc q)) (le_or_lt a b)
+use Rattle.spec_linux_btf.proofs.Types.{type_again, type_size, type_sound, type_twelve, Sound, sound_parts, type_back, type_fits, type_names, names_type}
 
 pub leb_same : (a b c d : ℕ) → (a ≤ b → c ≤ d) → (c ≤ d → a ≤ b) → leb a b ≡ leb c d
-leb_same a b c d f g = ⊎_elim (λ l. le-leb a b l ∙ sym (le-leb c d (f l))) (λ l. lt-leb a b l ∙ sym (lt-leb c d (no' l))) (le_or_lt a b)
+leb_same a b c d f g = ⊎_elim (λ l. lt-leb a b l ∙ sym (lt-leb c d (no' l))) (λ l. le-leb a b l ∙ sym (le-leb c d (f l))) (cases_lt b a)
   where
     no' : b < a → d < c
-    no' l = ⊎_elim (λ m. absurd (omega (arith, g m))) (λ m. m) (le_or_lt c d)
+    no' l = ⊎_elim (λ m. m) (λ m. absurd (omega (arith, g m))) (cases_lt d c)
 
 -- one step of the walk
 module _ (big : Bool) (sl n : ℕ) (b : List ℕ) (p : ℕ) where
@@ -125,21 +122,21 @@ ended big sl n b p e h = rw e (record { laid = sym (drop_of_length-le b h); fit 
 pub area_back : (big : Bool) (sl n : ℕ) (b : List ℕ) (p : ℕ) → Bytes b → p ≤ length b → passes big sl n b p ≡ true → Back big sl n b p (map (type_at big b) (places big n b p))
 unfolding encode_all
 area_back big sl zero b p y q h = ended big sl zero b p (places_none big b p) (none_passes big sl b p h)
-area_back big sl (suc n) b p y q h = ⊎_elim (λ l. ended big sl (suc n) b p (places_out big sl n b p l) l) (λ l. more (area_back big sl n b (p + size_at big (drop p b)) y) l) (le_or_lt (length b) p)
+area_back big sl (suc n) b p y q h = ⊎_elim (λ l. more (area_back big sl n b (p + size_at big (drop p b)) y) l) (λ l. ended big sl (suc n) b p (places_out big sl n b p l) l) (cases_lt p (length b))
   where
     more : (p + size_at big (drop p b) ≤ length b → passes big sl n b (p + size_at big (drop p b)) ≡ true → Back big sl n b (p + size_at big (drop p b)) (map (type_at big b) (places big n b (p + size_at big (drop p b)))))
         → p < length b → Back big sl (suc n) b p (map (type_at big b) (places big (suc n) b p))
     more rec l =
         let both : (sound big (drop p b) && (named big sl (drop p b) && passes big sl n b (p + size_at big (drop p b)))) ≡ true = sym (passes_in big sl n b p l) ∙ h in
-        let s : Sound big (drop p b) = sound_parts big (drop p b) (and_left (sound big (drop p b)) _ both) in
-        let two = and_right (sound big (drop p b)) _ both in
-        let ih = rec (omega (arith, s.rest, length-drop p b)) (and_right (named big sl (drop p b)) _ two) in
+        let s : Sound big (drop p b) = sound_parts big (drop p b) (first_so (sound big (drop p b)) _ both) in
+        let two = second_so (sound big (drop p b)) _ both in
+        let ih = rec (omega (arith, s.rest, length-drop p b)) (second_so (named big sl (drop p b)) _ two) in
         let z : Bytes (drop p b) = bytes_drop b p y in
         let j : encode big (type_at big b p) ++ drop (size_at big (drop p b)) (drop p b) ≡ drop p b = type_back big (drop p b) z s in
         rw (places_in big sl n b p l)
         (record {
           laid = ap (λ (r : List ℕ). encode big (type_at big b p) ++ r) (ih.laid ∙ sym (drop-drop (size_at big (drop p b)) p b)) ∙ j;
-          fit = ((type_fits big (drop p b) z s, type_names big sl (drop p b) (and_left (named big sl (drop p b)) _ two)), ih.fit);
+          fit = ((type_fits big (drop p b) z s, type_names big sl (drop p b) (first_so (named big sl (drop p b)) _ two)), ih.fit);
           few = suc-le-suc ih.few;
         })
 
@@ -150,17 +147,17 @@ pub record Met (big : Bool) (b : List ℕ) (q : ℕ) : Type 0 where
 
 pub area_met : (big : Bool) (sl n : ℕ) (b : List ℕ) (p : ℕ) → p ≤ length b → passes big sl n b p ≡ true → Every (Met big b) (places big n b p)
 area_met big sl zero b p q h = rw (places_none big b p) tt
-area_met big sl (suc n) b p q h = ⊎_elim (λ l. rw (places_out big sl n b p l) tt) (λ l. more (area_met big sl n b (p + size_at big (drop p b))) l) (le_or_lt (length b) p)
+area_met big sl (suc n) b p q h = ⊎_elim (λ l. more (area_met big sl n b (p + size_at big (drop p b))) l) (λ l. rw (places_out big sl n b p l) tt) (cases_lt p (length b))
   where
     more : (p + size_at big (drop p b) ≤ length b → passes big sl n b (p + size_at big (drop p b)) ≡ true → Every (Met big b) (places big n b (p + size_at big (drop p b))))
         → p < length b → Every (Met big b) (places big (suc n) b p)
     more rec l =
         let both : (sound big (drop p b) && (named big sl (drop p b) && passes big sl n b (p + size_at big (drop p b)))) ≡ true = sym (passes_in big sl n b p l) ∙ h in
-        let s : Sound big (drop p b) = sound_parts big (drop p b) (and_left (sound big (drop p b)) _ both) in
-        let two = and_right (sound big (drop p b)) _ both in
+        let s : Sound big (drop p b) = sound_parts big (drop p b) (first_so (sound big (drop p b)) _ both) in
+        let two = second_so (sound big (drop p b)) _ both in
         let e : p + size_at big (drop p b) ≤ length b = omega (arith, s.rest, length-drop p b) in
         rw (places_in big sl n b p l)
-        (record { lies = e; is_sound' = s }, rec e (and_right (named big sl (drop p b)) _ two))
+        (record { lies = e; is_sound' = s }, rec e (second_so (named big sl (drop p b)) _ two))
 
 ---------------------------------------------------------------------------------------------------------------------------------------
 -- The theorems of a type section (in `Claims` with the page's sentences)

@@ -7,11 +7,12 @@ use native.Mathlib.Omega.{arith}
 use lib.ListN.{length, get_or}
 use lib.Dec.{leb, eqb}
 use borrow.Author.Tests.{eqb-true}
+use Rattle.std.specs.Cmp.{first_so, second_so}
 use Rattle.spec_linux_btf.specs.Documentation.{Field, size_of, pack, unpack, btf_info, btf_info_unused, btf_int, member_offset_bits, int_word, btf_array, btf_member, btf_enum, btf_param, btf_var, btf_var_secinfo, btf_decl_tag, btf_enum64, Follows, unknown, nothing, one, each, kinds, follows, member, enumerator, param, secinfo, enumerator64, Body, int, ptr, array, struct, union, enum, fwd, typedef, volatile, const, restrict, func, func_proto, var, datasec, float, decl_tag, type_tag, enum64, described, kind_of, vlen_of}
 use Rattle.spec_linux_btf.specs.Reading.{Kind, none, INT, PTR, ARRAY, STRUCT, UNION, ENUM, FWD, TYPEDEF, VOLATILE, CONST, RESTRICT, FUNC, FUNC-PROTO, VAR, DATASEC, FLOAT, DECL-TAG, TYPE-TAG, ENUM64, kind_table, kind, shape, known}
 use Rattle.spec_linux_btf.specs.Places.{vlen_p, kind_p, flag_p, member_p, enumerator_p, param_p, secinfo_p, enumerator64_p, tabulate, body_p, type_p, sound_p}
 use Rattle.spec_linux_btf.specs.Fields.{name_off, vlen_in, kind_in, kind_flag, info, size_or_type, member_fields, enum_fields, param_fields, secinfo_fields, enum64_fields, body_structs, structs, struct_field, fields_at, structs_at, bit_offset, bitfield_size}
-use Rattle.spec_linux_btf.proofs.Types.{number, number_kind, int_parts, info_back, and_left, and_right}
+use Rattle.spec_linux_btf.proofs.Types.{number, number_kind, int_parts, info_back}
 use Rattle.spec_linux_btf.proofs.ByPlaces.{tabulate_at, table_same}
 
 ---------------------------------------------------------------------------------------------------------------------------------------
@@ -192,12 +193,12 @@ module _ (w : ℕ → ℕ) (p : ℕ) where
   unfolding info type_p sound_p kind_p vlen_p flag_p
   info_word len h =
       let x : ℕ = w (p + 4) in
-      let h1 = and_right (leb (p + 12) len) _ h in
-      let kn : known (shape (kind (x / 16777216 % 32))) ≡ true = and_left (known (shape (kind (x / 16777216 % 32)))) _ h1 in
-      let h2 = and_right (known (shape (kind (x / 16777216 % 32)))) _ h1 in
-      let u : x / 65536 % 256 ≡ 0 = eqb-true (x / 65536 % 256) 0 (and_left (eqb (x / 65536 % 256) 0) _ h2) in
-      let h3 = and_right (eqb (x / 65536 % 256) 0) _ h2 in
-      let v : x / 536870912 % 4 ≡ 0 = eqb-true (x / 536870912 % 4) 0 (and_left (eqb (x / 536870912 % 4) 0) _ h3) in
+      let h1 = second_so (leb (p + 12) len) _ h in
+      let kn : known (shape (kind (x / 16777216 % 32))) ≡ true = first_so (known (shape (kind (x / 16777216 % 32)))) _ h1 in
+      let h2 = second_so (known (shape (kind (x / 16777216 % 32)))) _ h1 in
+      let u : x / 65536 % 256 ≡ 0 = eqb-true (x / 65536 % 256) 0 (first_so (eqb (x / 65536 % 256) 0) _ h2) in
+      let h3 = second_so (eqb (x / 65536 % 256) 0) _ h2 in
+      let v : x / 536870912 % 4 ≡ 0 = eqb-true (x / 536870912 % 4) 0 (first_so (eqb (x / 536870912 % 4) 0) _ h3) in
       let b : Body = body_p (kind (x / 16777216 % 32)) (x / 2147483648) (x % 65536) w (p + 12) in
       let ek : kind_of b ≡ x / 16777216 % 32 = body_kind_p (kind (x / 16777216 % 32)) (x / 2147483648) (x % 65536) w (p + 12) kn ∙ number_kind (x / 16777216 % 32) kn in
       let ev : vlen_of b ≡ x % 65536 = body_vlen_p (kind (x / 16777216 % 32)) (x / 2147483648) (x % 65536) w (p + 12) in
@@ -333,10 +334,10 @@ pub unused_ranges : (w : ℕ → ℕ) (len p : ℕ) → sound_p w len p ≡ true
 unfolding sound_p
 unused_ranges w len p h =
     let x : ℕ = w (p + 4) in
-    let h2 = and_right (known (shape (kind (kind_p w p)))) _ (and_right (leb (p + 12) len) _ h) in
-    let u : x / 65536 % 256 ≡ 0 = eqb-true (x / 65536 % 256) 0 (and_left (eqb (x / 65536 % 256) 0) _ h2) in
-    let h3 = and_right (eqb (x / 65536 % 256) 0) _ h2 in
-    let v : x / 536870912 % 4 ≡ 0 = eqb-true (x / 536870912 % 4) 0 (and_left (eqb (x / 536870912 % 4) 0) _ h3) in
+    let h2 = second_so (known (shape (kind (kind_p w p)))) _ (second_so (leb (p + 12) len) _ h) in
+    let u : x / 65536 % 256 ≡ 0 = eqb-true (x / 65536 % 256) 0 (first_so (eqb (x / 65536 % 256) 0) _ h2) in
+    let h3 = second_so (eqb (x / 65536 % 256) 0) _ h2 in
+    let v : x / 536870912 % 4 ≡ 0 = eqb-true (x / 536870912 % 4) 0 (first_so (eqb (x / 536870912 % 4) 0) _ h3) in
     λ i. u i ∷ v i ∷ []
 
 pub int_ranges : (x : ℕ) → x < 2 ^ 32 → (x % 256 ∷ x / 256 % 256 ∷ x / 65536 % 256 ∷ x / 16777216 % 16 ∷ x / 268435456 ∷ []) ≡ unpack btf_int x

@@ -9,11 +9,12 @@ use lib.ListN.{length, get_or, drop, length-drop, length-append}
 use lib.Seq.{get_or-take, get_or-drop, drop-drop, take-append_seam, drop-append_seam, take-length}
 use lib.Dec.{leb, eqb}
 use borrow.Author.Tests.{le-leb, eqb-true}
+use Rattle.std.specs.Cmp.{first_so, second_so}
+use Rattle.std.proofs.lemmas.Bool.{and_from}
 use Rattle.spec_linux_btf.specs.Documentation.{first_byte, other_bytes, in_bytes, Every, Described, encode_all, Fits, Allowed, Header, header, encode_header, FitHeader, encode_section}
 use Rattle.spec_linux_btf.specs.Reading.{word, Bytes, decode_all}
 use Rattle.spec_linux_btf.specs.Section.{is_big_endian, little_endian, hdr_len_of, type_off_of, type_len_of, str_off_of, str_len_of, read_header, type_area, string_area, header_sound, types_sound}
 use Rattle.spec_linux_btf.proofs.Words.{word_again, word_back2, word_back3, word_drop, bytes_drop}
-use Rattle.spec_linux_btf.proofs.Types.{and_true, and_left, and_right}
 use Rattle.spec_linux_btf.proofs.Area.{layout_read, layout_passes}
 
 -- one byte is the same in both orders
@@ -77,8 +78,8 @@ magic_bytes : (a b : ℕ) → ((eqb a 235 && eqb b 159) || (eqb a 159 && eqb b 2
 magic_bytes a b m = go (eqb a 235 && eqb b 159) refl m
   where
     go : (o : Bool) → (eqb a 235 && eqb b 159) ≡ o → (o || (eqb a 159 && eqb b 235)) ≡ true → (first_byte o 1 0xeb9f ≡ a) × (first_byte o 0 (other_bytes o 0xeb9f) ≡ b)
-    go true e m = (sym (eqb-true a 235 (and_left (eqb a 235) _ e)), sym (eqb-true b 159 (and_right (eqb a 235) _ e)))
-    go false e m = (sym (eqb-true a 159 (and_left (eqb a 159) _ m)), sym (eqb-true b 235 (and_right (eqb a 159) _ m)))
+    go true e m = (sym (eqb-true a 235 (first_so (eqb a 235) _ e)), sym (eqb-true b 159 (second_so (eqb a 235) _ e)))
+    go false e m = (sym (eqb-true a 159 (first_so (eqb a 159) _ m)), sym (eqb-true b 235 (second_so (eqb a 159) _ m)))
 
 pub header_back : (b : List ℕ) → Bytes b → 24 ≤ length b → (is_big_endian b || little_endian b) ≡ true → encode_header (is_big_endian b) (read_header b) ++ drop 24 b ≡ b
 unfolding encode_header read_header hdr_len_of type_off_of type_len_of str_off_of str_len_of word is_big_endian little_endian
@@ -130,7 +131,7 @@ module _ (big : Bool) (h : Header) (s : List ℕ) (f : FitHeader h) where
   unfolding read_header
   at_sl = ap sl (header_read big h s f)
 
-past_header : (big : Bool) (h : Header) (s : List ℕ) → drop 24 (encode_header big h ++ s) ≡ s
+pub past_header : (big : Bool) (h : Header) (s : List ℕ) → drop 24 (encode_header big h ++ s) ≡ s
 unfolding encode_header
 past_header big (header v f h o l p q) s = refl
 
@@ -139,7 +140,7 @@ unfolding encode_header
 version_one true f h o l p q s = refl
 version_one false f h o l p q s = refl
 
-header_length : (big : Bool) (h : Header) → length (encode_header big h) ≡ 24
+pub header_length : (big : Bool) (h : Header) → length (encode_header big h) ≡ 24
 unfolding encode_header
 header_length big (header v f h o l p q) = refl
 
@@ -176,17 +177,17 @@ module _ (big : Bool) (flags : ℕ) (ts : List Described) (strings : List ℕ) (
   section_header =
       let x : List ℕ = encode_all big ts ++ strings in
       let len : length (encode_header big head ++ x) ≡ 24 + (length (encode_all big ts) + length strings) = length-append (encode_header big head) x ∙ rw (header_length big head, length-append (encode_all big ts) strings) in
-      and_true
+      and_from _ _
       (le-leb 24 (length (encode_header big head ++ x)) (omega arith))
-      (and_true
+      (and_from _ _
       (header_magic big head x)
-      (and_true
+      (and_from _ _
       (version_one big flags 24 0 (length (encode_all big ts)) (length (encode_all big ts)) (length strings) x)
-      (and_true
+      (and_from _ _
       (ap (leb 24) (at_hl big head x fits))
-      (and_true
+      (and_from _ _
       (le-leb (hdr_len_of (encode_header big head ++ x)) (length (encode_header big head ++ x)) (omega (arith, at_hl big head x fits)))
-      (and_true
+      (and_from _ _
       (le-leb (hdr_len_of (encode_header big head ++ x) + type_off_of (encode_header big head ++ x) + type_len_of (encode_header big head ++ x)) (length (encode_header big head ++ x)) (omega (arith, at_hl big head x fits, at_to big head x fits, at_tl big head x fits)))
       (le-leb (hdr_len_of (encode_header big head ++ x) + str_off_of (encode_header big head ++ x) + str_len_of (encode_header big head ++ x)) (length (encode_header big head ++ x)) (omega (arith, at_hl big head x fits, at_so big head x fits, at_sl big head x fits))))))))
 

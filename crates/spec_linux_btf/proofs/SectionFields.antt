@@ -9,22 +9,20 @@ use lib.ListN.{length, get_or, take, drop, length-drop, length-map}
 use lib.Seq.{length-take-le}
 use lib.Dec.{ltb, leb, eqb}
 use borrow.Author.Tests.{leb-true, lt-ltb}
+use Rattle.std.proofs.lemmas.Bool.{cases_lt}
+use Rattle.std.specs.Cmp.{first_so, second_so}
+use Rattle.std.proofs.lemmas.List.{get_or-map}
 use Rattle.spec_bytes.specs.words.Words.{word_at, word_at_big, word_in, join_at, join_big, pick}
 use Rattle.spec_linux_btf.specs.Documentation.{Every, Described}
 use Rattle.spec_linux_btf.specs.Reading.{word, Bytes, size_at, sound, named, passes, places, type_at, decode_all, layout_sound}
 use Rattle.spec_linux_btf.specs.Places.{size_p, type_p, place_from}
 use Rattle.spec_linux_btf.specs.Section.{is_big_endian, little_endian, word_of, hdr_len_of, type_off_of, type_len_of, str_len_of, type_area, header_sound, types_sound, types_at, ReadAs}
 use Rattle.spec_linux_btf.proofs.Words.{bytes_drop}
-use Rattle.spec_linux_btf.proofs.Types.{and_left, and_right, Sound, sound_parts}
-use Rattle.spec_linux_btf.proofs.Area.{le_or_lt, none_passes, passes_in, places_none, places_in, places_out, Met, area_met, read_layout}
+use Rattle.spec_linux_btf.proofs.Types.{Sound, sound_parts}
+use Rattle.spec_linux_btf.proofs.Area.{none_passes, passes_in, places_none, places_in, places_out, Met, area_met, read_layout}
 use Rattle.spec_linux_btf.proofs.ByPlaces.{Same, size_same, places_same, places_decode, size_places}
 use Rattle.spec_linux_btf.proofs.Shifted.{type_shift, place_shift}
 use Rattle.spec_linux_btf.proofs.Section.{area_word_lem}
-
-map_at : {E : Type 0} (f : ℕ → E) (l : List ℕ) (i : ℕ) (d : E) → i < length l → get_or (map f l) i d ≡ f (get_or l i 0)
-map_at f [] i d h = absurd (omega arith)
-map_at f (x ∷ l) zero d h = refl
-map_at f (x ∷ l) (suc i) d h = map_at f l i d (omega arith)
 
 every_at : (P : ℕ → Type 0) (l : List ℕ) → Every P l → (i : ℕ) → i < length l → P (get_or l i 0)
 every_at P [] e i h = absurd (omega arith)
@@ -50,9 +48,9 @@ pub place_at : (big : Bool) (n : ℕ) (b : List ℕ) (p i : ℕ) → i < length 
 place_at big zero b p i h = absurd (omega (arith, ap length (places_none big b p)))
 place_at big (suc n) b p i h =
     ⊎_elim
-    (λ l. absurd (omega (arith, ap length (places_out big 0 n b p l))))
     (λ l. place_step big n b p i (place_at big n b (p + size_at big (drop p b))) l (rw (places_in big 0 n b p l) at h))
-    (le_or_lt (length b) p)
+    (λ l. absurd (omega (arith, ap length (places_out big 0 n b p l))))
+    (cases_lt p (length b))
 
 -- the place after the last record is the end
 area_ends : (big : Bool) (sl n : ℕ) (b : List ℕ) (p : ℕ) → p ≤ length b → passes big sl n b p ≡ true → place_from (word big b) p (length (places big n b p)) ≡ length b
@@ -61,7 +59,7 @@ area_ends big sl zero b p q h =
     let l : length b ≤ p = none_passes big sl b p h in
     let e : p ≡ length b = omega arith in
     ap (λ (x : List ℕ). place_from (word big b) p (length x)) (places_none big b p) ∙ e
-area_ends big sl (suc n) b p q h = ⊎_elim out (λ l. more (area_ends big sl n b (p + size_at big (drop p b))) l) (le_or_lt (length b) p)
+area_ends big sl (suc n) b p q h = ⊎_elim (λ l. more (area_ends big sl n b (p + size_at big (drop p b))) l) out (cases_lt p (length b))
   where
     out : length b ≤ p → place_from (word big b) p (length (places big (suc n) b p)) ≡ length b
     out l =
@@ -72,25 +70,25 @@ area_ends big sl (suc n) b p q h = ⊎_elim out (λ l. more (area_ends big sl n 
         → p < length b → place_from (word big b) p (length (places big (suc n) b p)) ≡ length b
     more rec l =
         let both : (sound big (drop p b) && (named big sl (drop p b) && passes big sl n b (p + size_at big (drop p b)))) ≡ true = sym (passes_in big sl n b p l) ∙ h in
-        let s : Sound big (drop p b) = sound_parts big (drop p b) (and_left (sound big (drop p b)) _ both) in
-        let two = and_right (sound big (drop p b)) _ both in
+        let s : Sound big (drop p b) = sound_parts big (drop p b) (first_so (sound big (drop p b)) _ both) in
+        let two = second_so (sound big (drop p b)) _ both in
         let e : p + size_at big (drop p b) ≤ length b = omega (arith, s.rest, length-drop p b) in
         let c : ℕ = length (places big n b (p + size_at big (drop p b))) in
         ap (λ (x : List ℕ). place_from (word big b) p (length x)) (places_in big sl n b p l)
         ∙ sym (from_next (word big b) p c)
         ∙ ap (λ (z : ℕ). place_from (word big b) (p + z) c) (sym (size_places big b p))
-        ∙ rec e (and_right (named big sl (drop p b)) _ two)
+        ∙ rec e (second_so (named big sl (drop p b)) _ two)
 
 -- the header's third test: the type area lies inside the section
 pub area_inside : (s : List ℕ) → header_sound s ≡ true → hdr_len_of s + type_off_of s + type_len_of s ≤ length s
 unfolding header_sound
 area_inside s h =
-    let h1 = and_right (leb 24 (length s)) _ h in
-    let h2 = and_right (is_big_endian s || little_endian s) _ h1 in
-    let h4 = and_right (eqb (get_or s 2 0) 1) _ h2 in
-    let h5 = and_right (leb 24 (hdr_len_of s)) _ h4 in
-    let h6 = and_right (leb (hdr_len_of s) (length s)) _ h5 in
-    leb-true (hdr_len_of s + type_off_of s + type_len_of s) (length s) (and_left (leb (hdr_len_of s + type_off_of s + type_len_of s) (length s)) _ h6)
+    let h1 = second_so (leb 24 (length s)) _ h in
+    let h2 = second_so (is_big_endian s || little_endian s) _ h1 in
+    let h4 = second_so (eqb (get_or s 2 0) 1) _ h2 in
+    let h5 = second_so (leb 24 (hdr_len_of s)) _ h4 in
+    let h6 = second_so (leb (hdr_len_of s) (length s)) _ h5 in
+    leb-true (hdr_len_of s + type_off_of s + type_len_of s) (length s) (first_so (leb (hdr_len_of s + type_off_of s + type_len_of s) (length s)) _ h6)
 
 pub area_length : (s : List ℕ) → header_sound s ≡ true → length (type_area s) ≡ type_len_of s
 unfolding type_area
@@ -170,7 +168,7 @@ module _ (s : List ℕ) (y : Bytes s) (h : header_sound s ≡ true) (t : types_s
       let w : ℕ → ℕ = word (is_big_endian s) (type_area s) in
       let n : i < length (places (is_big_endian s) 262144 (type_area s) 0) = simp length-map at l in
       let p : ℕ = place_from w 0 i in
-      let e : get_or (decode_all (is_big_endian s) (type_area s)) i d ≡ type_at (is_big_endian s) (type_area s) p = map_at (type_at (is_big_endian s) (type_area s)) (places (is_big_endian s) 262144 (type_area s) 0) i d n ∙ ap (type_at (is_big_endian s) (type_area s)) (place_at (is_big_endian s) 262144 (type_area s) 0 i n) in
+      let e : get_or (decode_all (is_big_endian s) (type_area s)) i d ≡ type_at (is_big_endian s) (type_area s) p = get_or-map (type_at (is_big_endian s) (type_area s)) (places (is_big_endian s) 262144 (type_area s) 0) i 0 d n ∙ ap (type_at (is_big_endian s) (type_area s)) (place_at (is_big_endian s) 262144 (type_area s) 0 i n) in
       let f : type_at (is_big_endian s) (type_area s) p ≡ type_p (area_word s) p = places_decode (is_big_endian s) (type_area s) p ∙ places_same w (area_word s) p (same p (met_at i n)) in
       sym (e ∙ f ∙ ap (type_p (area_word s)) (places_section i (omega arith)))
 

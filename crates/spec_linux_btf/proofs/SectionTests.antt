@@ -10,12 +10,13 @@ use lib.ListN.{length, drop, length-drop}
 use lib.Seq.{drop-drop}
 use lib.Dec.{ltb, leb, eqb}
 use borrow.Author.Tests.{lt-ltb, le-ltb, lt-leb, leb-true}
+use Rattle.std.proofs.lemmas.Bool.{cases_lt}
+use Rattle.std.specs.Cmp.{first_so, second_so}
 use Rattle.spec_linux_btf.specs.Reading.{word, Bytes, decode_all, Kind, none, INT, PTR, ARRAY, STRUCT, UNION, ENUM, FWD, TYPEDEF, VOLATILE, CONST, RESTRICT, FUNC, FUNC-PROTO, VAR, DATASEC, FLOAT, DECL-TAG, TYPE-TAG, ENUM64, kind, shape, known, extra, kind_at, vlen_at, size_at, sound, all_named, entries_named, named, passes, layout_sound}
 use Rattle.spec_linux_btf.specs.Places.{kind_p, vlen_p, size_p, place_from, sound_p, all_named_p, entries_named_p, named_p, passes_p}
 use Rattle.spec_linux_btf.specs.Section.{is_big_endian, word_of, str_len_of, type_len_of, types_at, type_area, header_sound, types_sound}
 use Rattle.spec_linux_btf.proofs.Words.{word_drop}
-use Rattle.spec_linux_btf.proofs.Types.{and_left, and_right}
-use Rattle.spec_linux_btf.proofs.Area.{le_or_lt, leb_same, passes_in, passes_out}
+use Rattle.spec_linux_btf.proofs.Area.{leb_same, passes_in, passes_out}
 use Rattle.spec_linux_btf.proofs.ByPlaces.{first, size_places}
 use Rattle.spec_linux_btf.proofs.Shifted.{passes_shift}
 use Rattle.spec_linux_btf.proofs.SectionFields.{from_next, section_inside, area_word, area_words, area_length}
@@ -89,11 +90,11 @@ unfolding passes_p place_from
 record_sound sl zero w len p h i l = absurd (omega (arith, leb-true len p h, place_grows w p i))
 record_sound sl (suc n) w len p h zero l =
     let b = sym (in-P sl n w len p l) ∙ h in
-    (and_left (sound_p w len p) _ b, and_left (named_p sl w p) _ (and_right (sound_p w len p) _ b))
+    (first_so (sound_p w len p) _ b, first_so (named_p sl w p) _ (second_so (sound_p w len p) _ b))
 record_sound sl (suc n) w len p h (suc i) l =
     let g : p ≤ place_from w p i = place_grows w p i in
     let b = sym (in-P sl n w len p (omega arith)) ∙ h in
-    let c = and_right (named_p sl w p) _ (and_right (sound_p w len p) _ b) in
+    let c = second_so (named_p sl w p) _ (second_so (sound_p w len p) _ b) in
     let e : place_from w (p + size_p w p) i ≡ place_from w p (suc i) = from_next w p i in
     let d = record_sound sl n w len (p + size_p w p) c i (rw e l) in
     (ap (sound_p w len) (sym e) ∙ d.0, ap (named_p sl w) (sym e) ∙ d.1)
@@ -103,9 +104,9 @@ unfolding passes passes_p
 passes_places big sl zero b p = refl
 passes_places big sl (suc n) b p =
     ⊎_elim
-    (λ l. passes_out big sl n b p l ∙ sym (out-P sl n (word big b) (length b) p l))
     (λ l. passes_in big sl n b p l ∙ step (passes_places big sl n b (p + size_at big (drop p b)) ∙ ap (λ (z : ℕ). passes_p sl n (word big b) (length b) (p + z)) (size_places big b p)) ∙ sym (in-P sl n (word big b) (length b) p l))
-    (le_or_lt (length b) p)
+    (λ l. passes_out big sl n b p l ∙ sym (out-P sl n (word big b) (length b) p l))
+    (cases_lt p (length b))
   where
     step : passes big sl n b (p + size_at big (drop p b)) ≡ passes_p sl n (word big b) (length b) (p + size_p (word big b) p)
         → (sound big (drop p b) && (named big sl (drop p b) && passes big sl n b (p + size_at big (drop p b)))) ≡ (sound_p (word big b) (length b) p && (named_p sl (word big b) p && passes_p sl n (word big b) (length b) (p + size_p (word big b) p)))
@@ -155,10 +156,10 @@ module _ (w u : ℕ → ℕ) (len : ℕ) (same : (q : ℕ) → q + 4 ≤ len →
   sound_ends : (p : ℕ) → sound_p w len p ≡ true → p + size_p w p ≤ len
   unfolding sound_p
   sound_ends p h =
-      let h1 = and_right (leb (p + 12) len) _ h in
-      let h2 = and_right (known (shape (kind (kind_p w p)))) _ h1 in
-      let h3 = and_right (eqb (w (p + 4) / 65536 % 256) 0) _ h2 in
-      let h4 = and_right (eqb (w (p + 4) / 536870912 % 4) 0) _ h3 in
+      let h1 = second_so (leb (p + 12) len) _ h in
+      let h2 = second_so (known (shape (kind (kind_p w p)))) _ h1 in
+      let h3 = second_so (eqb (w (p + 4) / 65536 % 256) 0) _ h2 in
+      let h4 = second_so (eqb (w (p + 4) / 536870912 % 4) 0) _ h3 in
       leb-true (p + size_p w p) len h4
 
   size_same' : (p : ℕ) → p + 12 ≤ len → size_p w p ≡ size_p u p
@@ -178,9 +179,9 @@ module _ (w u : ℕ → ℕ) (len : ℕ) (same : (q : ℕ) → q + 4 ≤ len →
   passes_same sl zero p = refl
   passes_same sl (suc n) p =
       ⊎_elim
+      (λ l. in-P sl n w len p l ∙ ⊎_elim short (long (passes_same sl n (p + size_p w p))) (cases_lt len (p + 12)) ∙ sym (in-P sl n u len p l))
       (λ l. out-P sl n w len p l ∙ sym (out-P sl n u len p l))
-      (λ l. in-P sl n w len p l ∙ ⊎_elim (long (passes_same sl n (p + size_p w p))) short (le_or_lt (p + 12) len) ∙ sym (in-P sl n u len p l))
-      (le_or_lt len p)
+      (cases_lt p len)
     where
       short : len < p + 12 → (sound_p w len p && (named_p sl w p && passes_p sl n w len (p + size_p w p))) ≡ (sound_p u len p && (named_p sl u p && passes_p sl n u len (p + size_p u p)))
       short l = rw (sound_short w p l, sound_short u p l)

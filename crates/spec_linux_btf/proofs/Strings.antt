@@ -7,9 +7,10 @@ use native.Mathlib.Omega.{arith}
 use lib.ListN.{length}
 use lib.Dec.{leb, eqb}
 use borrow.Author.Tests.{le-leb, leb-true, eqb-true, eqb-false, ne_eqb, eq-eqb}
+use Rattle.std.specs.Cmp.{first_so, second_so}
+use Rattle.std.proofs.lemmas.Bool.{and_from}
 use Rattle.spec_linux_btf.specs.Documentation.{Every, encode_strings, encode_table, NonzeroAscii}
 use Rattle.spec_linux_btf.specs.Section.{prepend, split_strings, last_of, all_ascii, strings_sound}
-use Rattle.spec_linux_btf.proofs.Types.{and_true, and_left, and_right}
 
 split_zero : (x : ℕ) (xs : List ℕ) → eqb x 0 ≡ true → split_strings (x ∷ xs) ≡ [] ∷ split_strings xs
 unfolding split_strings
@@ -42,7 +43,7 @@ last_all (s ∷ ss) = last_one 0 s (encode_strings ss) ∙ last_all ss
 
 ascii_one : (s r : List ℕ) → Every NonzeroAscii s → all_ascii r ≡ true → all_ascii (s ++ (0 ∷ r)) ≡ true
 ascii_one [] r h k = k
-ascii_one (x ∷ s) r h k = and_true (le-leb x 127 h.0.1) (ascii_one s r h.1 k)
+ascii_one (x ∷ s) r h k = and_from _ _ (le-leb x 127 h.0.1) (ascii_one s r h.1 k)
 
 ascii_all : (ss : List (List ℕ)) → Every (Every NonzeroAscii) ss → all_ascii (encode_strings ss) ≡ true
 unfolding encode_strings
@@ -52,7 +53,7 @@ ascii_all (s ∷ ss) h = ascii_one s (encode_strings ss) h.0 (ascii_all ss h.1)
 pub strings_pass : (ss : List (List ℕ)) → Every (Every NonzeroAscii) ss → strings_sound (encode_table ss) ≡ true
 unfolding strings_sound encode_strings
 strings_pass ss h =
-    and_true (le-leb 1 (suc (length (encode_strings ss))) (suc-le-suc zero-le)) (and_true refl (and_true (eq-eqb (last_of 0 (encode_strings ss)) 0 (last_all ss)) (ascii_all ss h)))
+    and_from _ _ (le-leb 1 (suc (length (encode_strings ss))) (suc-le-suc zero-le)) (and_from _ _ refl (and_from _ _ (eq-eqb (last_of 0 (encode_strings ss)) 0 (last_all ss)) (ascii_all ss h)))
 
 -- (b)
 pushed : (x : ℕ) (xs : List ℕ) (l : List (List ℕ)) → encode_strings l ≡ xs → last_of x xs ≡ 0 → eqb x 0 ≡ false → encode_strings (prepend x l) ≡ x ∷ xs
@@ -85,20 +86,20 @@ letter_step x xs l ih false e =
 split_letters : (xs : List ℕ) → all_ascii xs ≡ true → Every (Every NonzeroAscii) (split_strings xs)
 unfolding split_strings
 split_letters [] h = tt
-split_letters (x ∷ xs) h = letter_step x xs (leb-true x 127 (and_left (leb x 127) _ h)) (split_letters xs (and_right (leb x 127) _ h)) (eqb x 0) refl
+split_letters (x ∷ xs) h = letter_step x xs (leb-true x 127 (first_so (leb x 127) _ h)) (split_letters xs (second_so (leb x 127) _ h)) (eqb x 0) refl
 
 -- what passes is a null string and then null-terminated strings, and exactly those that are read in it
 pub strings_back : (a : List ℕ) → strings_sound a ≡ true → (ss : List (List ℕ)) × Every (Every NonzeroAscii) ss × (encode_table ss ≡ a)
 unfolding strings_sound encode_strings
 strings_back [] h = absurd (true≢false (sym h))
 strings_back (x ∷ xs) h =
-    let h1 = and_right (leb 1 (length (x ∷ xs))) _ h in
-    let z : x ≡ 0 = eqb-true x 0 (and_left (eqb x 0) _ h1) in
-    let h2 = and_right (eqb x 0) _ h1 in
-    let l : last_of x xs ≡ 0 = eqb-true (last_of x xs) 0 (and_left (eqb (last_of x xs) 0) _ h2) in
-    let c = and_right (eqb (last_of x xs) 0) _ h2 in
+    let h1 = second_so (leb 1 (length (x ∷ xs))) _ h in
+    let z : x ≡ 0 = eqb-true x 0 (first_so (eqb x 0) _ h1) in
+    let h2 = second_so (eqb x 0) _ h1 in
+    let l : last_of x xs ≡ 0 = eqb-true (last_of x xs) 0 (first_so (eqb (last_of x xs) 0) _ h2) in
+    let c = second_so (eqb (last_of x xs) 0) _ h2 in
     let e = split_back x xs l in
-    (split_strings xs, split_letters xs (and_right (leb x 127) _ c), (λ i. sym z i ∷ e i))
+    (split_strings xs, split_letters xs (second_so (leb x 127) _ c), (λ i. sym z i ∷ e i))
 
 pub strings_once : (ss us : List (List ℕ)) → Every (Every NonzeroAscii) ss → Every (Every NonzeroAscii) us → encode_table ss ≡ encode_table us → ss ≡ us
 strings_once ss us f g e =

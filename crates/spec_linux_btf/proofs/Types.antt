@@ -1,16 +1,19 @@
 -- What follows the three words of a type, read where it was laid out and laid out where it was read, kind by kind; then a whole type. Assumes nothing.
 use Prim.Native.Nat.{ℕ, zero, suc, ◌+◌, ◌*◌, ◌/◌, ◌%◌, ◌<◌, ◌≤◌}
 use mathlib.Core.Path.{◌≡◌, refl, ap, ◌∙◌, sym}
-use mathlib.Core.Bool.{Bool, true, false, ◌&&◌, true≢false}
+use mathlib.Core.Bool.{Bool, true, false, true≢false}
 use mathlib.Core.List.{List, [], ◌∷◌, ◌++◌}
 use native.Mathlib.Omega.{arith}
 use lib.ListN.{length, get_or, drop, length-drop, length-append}
 use lib.Seq.{drop-drop}
 use lib.Dec.{ltb, leb, eqb}
 use borrow.Author.Tests.{ltb-true, lt-ltb, le-leb, eq-eqb, leb-true, eqb-true}
+use Rattle.std.specs.Cmp.{first_so, second_so}
+use Rattle.std.proofs.lemmas.Bool.{and_from}
+use Rattle.spec_bytes.proofs.words.Laws.{lower}
 use Rattle.spec_linux_btf.specs.Documentation.{in_bytes, Every, put_member, put_enumerator, put_param, put_secinfo, put_enumerator64, FitMember, FitEnumerator, FitParam, FitSecinfo, FitEnumerator64, Body, int, ptr, array, struct, union, enum, fwd, typedef, volatile, const, restrict, func, func_proto, var, datasec, float, decl_tag, type_tag, enum64, Described, described, kind_of, vlen_of, put_body, FitBody, encode, Fits, NamedMember, NamedEnumerator, NamedParam, NamedEnumerator64, NamedBody, Named}
 use Rattle.spec_linux_btf.specs.Reading.{word, Bytes, get_each, get_member, get_enumerator, get_param, get_secinfo, get_enumerator64, Kind, none, INT, PTR, ARRAY, STRUCT, UNION, ENUM, FWD, TYPEDEF, VOLATILE, CONST, RESTRICT, FUNC, FUNC-PROTO, VAR, DATASEC, FLOAT, DECL-TAG, TYPE-TAG, ENUM64, kind_table, kind, shape, known, extra, get_body, vlen_at, kind_at, flag_at, size_at, decode, sound, all_named, entries_named, named}
-use Rattle.spec_linux_btf.proofs.Words.{lower, word_again, word_small, word_back, word_back3, bytes_drop}
+use Rattle.spec_linux_btf.proofs.Words.{word_again, word_small, word_back, word_back3, bytes_drop}
 use Rattle.spec_linux_btf.proofs.Entries.{all_long, some_again, some_length, some_back, some_fits, members, enumerators, params, secinfos, enumerators64}
 
 abbrev pub number : Kind → ℕ
@@ -285,17 +288,6 @@ info_back w e1 e2 =
 ---------------------------------------------------------------------------------------------------------------------------------------
 -- A whole type
 
-pub and_true : {a b : Bool} → a ≡ true → b ≡ true → (a && b) ≡ true
-and_true p q = rw (p, q)
-
-pub and_left : (a b : Bool) → (a && b) ≡ true → a ≡ true
-and_left true b h = refl
-and_left false b h = h
-
-pub and_right : (a b : Bool) → (a && b) ≡ true → b ≡ true
-and_right true b h = h
-and_right false b h = absurd (true≢false (sym h))
-
 -- (a) a type read where it was laid out, whatever follows
 module _ (big : Bool) (n f t : ℕ) (b : Body) (s : List ℕ) (h : Fits (described n f t b)) where
   head_name : word big (encode big (described n f t b) ++ s) 0 ≡ n
@@ -344,13 +336,13 @@ module _ (big : Bool) (n f t : ℕ) (b : Body) (s : List ℕ) (h : Fits (describ
   type_sound' : sound big (encode big (described n f t b) ++ s) ≡ true
   unfolding sound
   type_sound' =
-      and_true
+      and_from _ _
       (le-leb 12 (length (encode big (described n f t b) ++ s)) (omega (arith, room, type_long)))
-      (and_true
+      (and_from _ _
       (ap (λ (k : ℕ). known (shape (kind k))) head_kind ∙ body_known b)
-      (and_true
+      (and_from _ _
       (eq-eqb (word big (encode big (described n f t b) ++ s) 4 / 65536 % 256) 0 (ap (λ (w : ℕ). w / 65536 % 256) head_info ∙ info.free1))
-      (and_true
+      (and_from _ _
       (eq-eqb (word big (encode big (described n f t b) ++ s) 4 / 536870912 % 4) 0 (ap (λ (w : ℕ). w / 536870912 % 4) head_info ∙ info.free2))
       (le-leb (size_at big (encode big (described n f t b) ++ s)) (length (encode big (described n f t b) ++ s)) (rw type_size' room)))))
 
@@ -377,15 +369,15 @@ pub record Sound (big : Bool) (r : List ℕ) : Type 0 where
 pub sound_parts : (big : Bool) (r : List ℕ) → sound big r ≡ true → Sound big r
 unfolding sound
 sound_parts big r h =
-    let h1 = and_right (leb 12 (length r)) _ h in
-    let h2 = and_right (known (shape (kind (kind_at big r)))) _ h1 in
-    let h3 = and_right (eqb (word big r 4 / 65536 % 256) 0) _ h2 in
-    let h4 = and_right (eqb (word big r 4 / 536870912 % 4) 0) _ h3 in
+    let h1 = second_so (leb 12 (length r)) _ h in
+    let h2 = second_so (known (shape (kind (kind_at big r)))) _ h1 in
+    let h3 = second_so (eqb (word big r 4 / 65536 % 256) 0) _ h2 in
+    let h4 = second_so (eqb (word big r 4 / 536870912 % 4) 0) _ h3 in
     record {
-      head = leb-true 12 (length r) (and_left (leb 12 (length r)) _ h);
-      is_known = and_left (known (shape (kind (kind_at big r)))) _ h1;
-      unused1 = eqb-true (word big r 4 / 65536 % 256) 0 (and_left (eqb (word big r 4 / 65536 % 256) 0) _ h2);
-      unused2 = eqb-true (word big r 4 / 536870912 % 4) 0 (and_left (eqb (word big r 4 / 536870912 % 4) 0) _ h3);
+      head = leb-true 12 (length r) (first_so (leb 12 (length r)) _ h);
+      is_known = first_so (known (shape (kind (kind_at big r)))) _ h1;
+      unused1 = eqb-true (word big r 4 / 65536 % 256) 0 (first_so (eqb (word big r 4 / 65536 % 256) 0) _ h2);
+      unused2 = eqb-true (word big r 4 / 536870912 % 4) 0 (first_so (eqb (word big r 4 / 536870912 % 4) 0) _ h3);
       rest = leb-true (size_at big r) (length r) h4;
     }
 
@@ -424,13 +416,13 @@ module _ (big : Bool) {E : Type 0} (sl : ℕ) (P : E → Type 0) (get : List ℕ
   all_named_lem : (n : ℕ) (e : List ℕ) → all_named big sl size n e ≡ true → Every P (get_each get size n e)
   all_named_lem zero e h = tt
   all_named_lem (suc n) e h =
-      (rw (is e) (ltb-true (word big e 0) sl (and_left (ltb (word big e 0) sl) _ h)), all_named_lem n (drop size e) (and_right (ltb (word big e 0) sl) _ h))
+      (rw (is e) (ltb-true (word big e 0) sl (first_so (ltb (word big e 0) sl) _ h)), all_named_lem n (drop size e) (second_so (ltb (word big e 0) sl) _ h))
 
   named_all : (n : ℕ) (e : List ℕ) → Every P (get_each get size n e) → all_named big sl size n e ≡ true
   named_all zero e h = refl
   named_all (suc n) e h =
       let l : word big e 0 < sl = rw (is e) at h.0 in
-      and_true (lt-ltb (word big e 0) sl l) (named_all n (drop size e) h.1)
+      and_from _ _ (lt-ltb (word big e 0) sl l) (named_all n (drop size e) h.1)
 
 member_named : (big : Bool) (sl f : ℕ) (r : List ℕ) → NamedMember sl (get_member big f r) ≡ (word big r 0 < sl)
 member_named big sl zero r = refl
@@ -483,9 +475,9 @@ names_body big sl ENUM64 f v e h = named_all big sl (NamedEnumerator64 sl) (get_
 pub type_names : (big : Bool) (sl : ℕ) (r : List ℕ) → named big sl r ≡ true → Named sl (decode big r)
 unfolding named decode
 type_names big sl r h =
-    (ltb-true (word big r 0) sl (and_left (ltb (word big r 0) sl) _ h), body_names big sl (kind (kind_at big r)) (flag_at big r) (vlen_at big r) (drop 12 r) (and_right (ltb (word big r 0) sl) _ h))
+    (ltb-true (word big r 0) sl (first_so (ltb (word big r 0) sl) _ h), body_names big sl (kind (kind_at big r)) (flag_at big r) (vlen_at big r) (drop 12 r) (second_so (ltb (word big r 0) sl) _ h))
 
 pub names_type : (big : Bool) (sl : ℕ) (r : List ℕ) → Named sl (decode big r) → named big sl r ≡ true
 unfolding named decode
 names_type big sl r h =
-    and_true (lt-ltb (word big r 0) sl h.0) (names_body big sl (kind (kind_at big r)) (flag_at big r) (vlen_at big r) (drop 12 r) h.1)
+    and_from _ _ (lt-ltb (word big r 0) sl h.0) (names_body big sl (kind (kind_at big r)) (flag_at big r) (vlen_at big r) (drop 12 r) h.1)

@@ -7,6 +7,7 @@ use native.Mathlib.Omega.{arith}
 use native.Mathlib.Nat.{add_assoc}
 use lib.ListN.{length, drop, length-drop}
 use lib.Seq.{get_or-drop, drop-drop}
+use Rattle.spec_bytes.proofs.words.Laws.{lower}
 use Rattle.spec_linux_btf.specs.Documentation.{in_bytes}
 use Rattle.spec_linux_btf.specs.Reading.{word, Bytes}
 
@@ -33,9 +34,6 @@ word_again true v s h =
     let e : v / 1 % 256 ≡ v % 256 = omega arith in
     omega arith
 word_again false v s h = omega arith
-
-pub lower : (a q : ℕ) → a < 256 → (a + q * 256) % 256 ≡ a
-lower a q h = omega arith
 
 pub upper : (a q : ℕ) → a < 256 → (a + q * 256) / 256 ≡ q
 upper a q h = omega arith

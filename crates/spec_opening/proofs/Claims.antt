@@ -10,6 +10,7 @@ use lib.ListN.{length, get_or, replicate}
 use lib.Dec.{eqb, leb}
 use borrow.Author.Tests.{lt-ltb, ltb-true, ne_eqb, eqb-true, eqb-false, eq-eqb, le-leb, leb-true, not-false}
 use Rattle.std.specs.Prelude.{Result, Ok, Err}
+use Rattle.std.proofs.lemmas.Bool.{and_parts, or_cases}
 use Rattle.spec_bytes.specs.declared.refusal.Refusal.{Refusal as Cause}
 use Rattle.spec_bytes.specs.Refusals.{refusal_number}
 use Rattle.btf_open_causes.specs.declared.records.Counts.{Counts}
@@ -27,6 +28,7 @@ use Rattle.spec_opening.specs.Table.{types_of, enumerators_of, index_of}
 use Rattle.spec_opening.specs.Causes.{cause1, cause2, cause3, cause4, cause5, cause6, cause7, cause8, cause9, table_of, causes, opening_number}
 use Rattle.spec_opening.specs.Opened.{Outcome, refused, opened, open_out, work_of, opening_of}
 use Rattle.spec_opening.proofs.Order as order
+use Rattle.spec_opening.proofs.Opens.{opens_refused, opens_sound}
 
 -- the number: 0 if and only if no cause holds; k + 1 if and only if cause k + 1 holds and none before it
 pub sound_none : (pointer : ℕ) (s : List ℕ) (work : ℕ) → (opening_number pointer s work ≡ 0) ↔ order.NoneHolds (causes pointer s work)
@@ -60,14 +62,6 @@ pub record HeaderIs (s : List ℕ) : Type 0 where
   pub types_inside : types_at s + type_len_of s ≤ length s
   pub strings_inside : strings_at s + str_len_of s ≤ length s
 
-both : (a b : Bool) → (a && b) ≡ true → (a ≡ true) × (b ≡ true)
-both true b h = (refl, h)
-both false b h = absurd (true≢false (sym h))
-
-either : (a b : Bool) → (a || b) ≡ true → (a ≡ true) ⊎ (b ≡ true)
-either true b h = inl refl
-either false b h = inr h
-
 one_of : (a b : Bool) → (a ≡ true) ⊎ (b ≡ true) → (a || b) ≡ true
 one_of true b h = refl
 one_of false b (inl e) = absurd (true≢false (sym e))
@@ -79,15 +73,15 @@ cause_3 s = (λ h. reads (not-false (header_sound s) h), λ h. ap not (writes h)
   where
     reads : header_sound s ≡ true → HeaderIs s
     reads h =
-        let a = both (leb 24 (length s)) _ h in
-        let b = both (is_big_endian s || little_endian s) _ a.1 in
-        let c = both (eqb (get_or s 2 0) 1) _ b.1 in
-        let d = both (leb 24 (hdr_len_of s)) _ c.1 in
-        let e = both (leb (hdr_len_of s) (length s)) _ d.1 in
-        let f = both (leb (types_at s + type_len_of s) (length s)) _ e.1 in
+        let a = and_parts (leb 24 (length s)) _ h in
+        let b = and_parts (is_big_endian s || little_endian s) _ a.1 in
+        let c = and_parts (eqb (get_or s 2 0) 1) _ b.1 in
+        let d = and_parts (leb 24 (hdr_len_of s)) _ c.1 in
+        let e = and_parts (leb (hdr_len_of s) (length s)) _ d.1 in
+        let f = and_parts (leb (types_at s + type_len_of s) (length s)) _ e.1 in
         record {
           long = leb-true 24 (length s) a.0;
-          magic = either (is_big_endian s) (little_endian s) b.0;
+          magic = or_cases (is_big_endian s) (little_endian s) b.0;
           version = eqb-true (get_or s 2 0) 1 c.0;
           header_long = leb-true 24 (hdr_len_of s) d.0;
           header_inside = leb-true (hdr_len_of s) (length s) e.0;
@@ -110,8 +104,8 @@ pub record StringsAre (a : List ℕ) : Type 0 where
 
 ascii_each : (a : List ℕ) → all_ascii a ≡ true → (i : ℕ) → get_or a i 0 ≤ 127
 ascii_each [] h i = omega arith
-ascii_each (x ∷ a) h zero = leb-true x 127 (both (leb x 127) (all_ascii a) h).0
-ascii_each (x ∷ a) h (suc i) = ascii_each a (both (leb x 127) (all_ascii a) h).1 i
+ascii_each (x ∷ a) h zero = leb-true x 127 (and_parts (leb x 127) (all_ascii a) h).0
+ascii_each (x ∷ a) h (suc i) = ascii_each a (and_parts (leb x 127) (all_ascii a) h).1 i
 
 each_ascii : (a : List ℕ) → ((i : ℕ) → get_or a i 0 ≤ 127) → all_ascii a ≡ true
 each_ascii [] h = refl
@@ -123,9 +117,9 @@ cause_4 s = (λ h. reads (string_area s) (not-false (strings_sound (string_area 
   where
     reads : (a : List ℕ) → strings_sound a ≡ true → StringsAre a
     reads a h =
-        let b = both (leb 1 (length a)) _ h in
-        let c = both (eqb (get_or a 0 1) 0) _ b.1 in
-        let d = both (eqb (last_of 1 a) 0) _ c.1 in
+        let b = and_parts (leb 1 (length a)) _ h in
+        let c = and_parts (eqb (get_or a 0 1) 0) _ b.1 in
+        let d = and_parts (eqb (last_of 1 a) 0) _ c.1 in
         record { some = leb-true 1 (length a) b.0; first = eqb-true (get_or a 0 1) 0 c.0; last = eqb-true (last_of 1 a) 0 d.0; ascii = ascii_each a d.1 }
 
     writes : (a : List ℕ) → StringsAre a → strings_sound a ≡ true
@@ -200,14 +194,6 @@ module _ (pointer modes : ℕ) (s w t : List ℕ) where
   abbrev num : ℕ
   num = opening_number pointer s (length w)
 
-  is_refused_lem : eqb num 0 ≡ false → opening_of pointer modes s w t ≡ refused num w t
-  unfolding opening_of
-  is_refused_lem e = rw (e, opening_of)
-
-  is_opened_lem : eqb num 0 ≡ true → opening_of pointer modes s w t ≡ opened (types_of s) (enumerators_of s) (work_of pointer modes s (length w)) (replicate (length t) 0)
-  unfolding opening_of
-  is_opened_lem e = rw (e, opening_of)
-
   module _ (r : Result Counts Cause) (w' t' : List ℕ) (contract : open_out r w' t' ≡ opening_of pointer modes s w t) where
     pub opened_says : (n : Counts) → r ≡ Ok n → Success pointer modes s w t n.types n.enumerators w' t'
     unfolding open_out
@@ -218,7 +204,7 @@ module _ (pointer modes : ℕ) (s w t : List ℕ) where
 
         go : (q : Bool) → eqb num 0 ≡ q → Success pointer modes s w t n.types n.enumerators w' t'
         go true g =
-            let is = out ∙ is_opened_lem g in
+            let is = out ∙ opens_sound pointer modes s w t g in
             record {
               number = eqb-true num 0 g;
               types_is = ap types_in is;
@@ -226,7 +212,7 @@ module _ (pointer modes : ℕ) (s w t : List ℕ) where
               work_is = ap work_in is;
               text_is = ap text_in is;
             }
-        go false g = absurd (true≢false (ap is_opened (out ∙ is_refused_lem g)))
+        go false g = absurd (true≢false (ap is_opened (out ∙ opens_refused pointer modes s w t g)))
 
     pub refused_says : (c : Cause) → r ≡ Err c → Refusal pointer s w t (refusal_number c) w' t'
     unfolding open_out
@@ -236,9 +222,9 @@ module _ (pointer modes : ℕ) (s w t : List ℕ) where
         out = sym (ap (λ (q : Result Counts Cause). open_out q w' t') f) ∙ contract
 
         go : (q : Bool) → eqb num 0 ≡ q → Refusal pointer s w t (refusal_number c) w' t'
-        go true g = absurd (true≢false (sym (ap is_opened (out ∙ is_opened_lem g))))
+        go true g = absurd (true≢false (sym (ap is_opened (out ∙ opens_sound pointer modes s w t g))))
         go false g =
-            let is = out ∙ is_refused_lem g in
+            let is = out ∙ opens_refused pointer modes s w t g in
             record {
               number = sym (ap number_in is);
               some = λ z. eqb-false num 0 g (sym (ap number_in is) ∙ z);

@@ -11,7 +11,7 @@ use lib.ListN.{length, get_or, length-set, replicate, length-replicate}
 use lib.Seq.{get_or-set_same, get_or-set_other}
 use lib.Dec.{ltb}
 use borrow.Author.Tests.{lt-ltb, le-ltb, ne_eqb}
-use Rattle.spec_bytes.proofs.words.Laws.{le_or_lt}
+use Rattle.std.proofs.lemmas.Bool.{cases_lt}
 use Rattle.spec_type_table.specs.Records.{section_word}
 use Rattle.spec_linux_btf.specs.Places.{kind_p, size_p}
 use Rattle.spec_linux_btf.specs.Section.{types_at, type_len_of, header_sound, types_sound}
@@ -86,15 +86,15 @@ module _ (s : List ℕ) where
       -- the count of the table is that of the section
       pub table_types : (btf_of s pointer modes (types_of s)).types ≡ types_of s
       unfolding btf_of
-      table_types = ⊎_elim (λ l. rw (le-ltb (types_of s) 262145 l) (omega arith)) (λ l. rw (lt-ltb (types_of s) 262145 l)) (le_or_lt 262145 (types_of s))
+      table_types = ⊎_elim (λ l. rw (lt-ltb (types_of s) 262145 l)) (λ l. rw (le-ltb (types_of s) 262145 l) (omega arith)) (cases_lt (types_of s) 262145)
 
       pub table_count : type_count (btf_of s pointer modes (types_of s)) ≡ types_of s
       unfolding type_count
       table_count =
           ⊎_elim
-          (λ l. rw (le-ltb (btf_of s pointer modes (types_of s)).types 262145 (omega (arith, table_types))) (omega arith))
           (λ l. rw (lt-ltb (btf_of s pointer modes (types_of s)).types 262145 (omega (arith, table_types))) table_types)
-          (le_or_lt 262145 (types_of s))
+          (λ l. rw (le-ltb (btf_of s pointer modes (types_of s)).types 262145 (omega (arith, table_types))) (omega arith))
+          (cases_lt (types_of s) 262145)
 
       entry_is : (x : ℕ) → 1 ≤ x → x < types_of s → entry_at (btf_of s pointer modes (types_of s)) (index_of s) x ≡ get_or (index_of s) x 0
       unfolding entry_at

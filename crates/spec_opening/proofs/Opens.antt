@@ -17,6 +17,7 @@ use Rattle.btf_open_causes.specs.prototypes.Prototypes.{any_leads}
 use Rattle.btf_open_causes.specs.loops.Graph.{has_loop}
 use Rattle.btf_open_causes.specs.loops.Loops.{graph_of}
 use Rattle.std.specs.Prelude.{Option, Some, None, ok_or, Result, Ok, Err}
+use Rattle.std.specs.Cmp.{first_so}
 use Rattle.spec_bytes.specs.declared.refusal.Refusal.{Refusal}
 use Rattle.spec_bytes.specs.declared.refusal.Refusal.TheVariants.{PointerSize, SectionTooLong, BadHeader, BadStrings, BadRecord, BadReference, PrototypeHeld, Loop, WorkShort, NoSuchId, SessionClosed, TooDeep, Cycle, NamelessTypedef, AlignmentZero, Overflow, TextFull, Misplaced, NoDeclaration, NoField, CeilingPassed, OutputShort}
 use Rattle.spec_bytes.specs.Refusals.{refusal_number}
@@ -28,7 +29,7 @@ use Rattle.spec_opening.specs.Causes.{cause1, cause2, cause3, cause4, cause5, ca
 use Rattle.btf_open_names.specs.filled_work.Left.{filled}
 use Rattle.btf_open_names.specs.filled_work.Takers.{takers_in}
 use Rattle.spec_opening.specs.Opened.{refused, opened, open_out, work_of, opening_of, Examined, refused_by, sound_with, examine_out, examined, indexed}
-use Rattle.btf_open_causes.proofs.header.Headers.{read4, read8, read12, read20, and_left, order_is}
+use Rattle.btf_open_causes.proofs.header.Headers.{read4, read8, read12, read20, order_is}
 use Rattle.spec_opening.proofs.Sections.{pass_decides, pass_count, pass_enums, pass_index}
 use Rattle.spec_opening.proofs.Order.{NoneHolds, next_zero, first_none, first_stays}
 
@@ -53,7 +54,7 @@ module _ (w : ℕ → ℕ) (sl from end : ℕ) (start : List ℕ) where
 module _ (b : TypeTable) (s : List ℕ) (o : b.big_endian ≡ is_big_endian s) (h : header_sound s ≡ true) (l : length s ≤ 16777216) where
   long : 24 ≤ length s
   unfolding header_sound
-  long = leb-true 24 (length s) (and_left (leb 24 (length s)) _ h)
+  long = leb-true 24 (length s) (first_so (leb 24 (length s)) _ h)
 
   count_index : types_sound s ≡ true → index_p (section_word b s) (hdr_len_of s + type_off_of s) empty_index (count_p (section_word b s) 262144 (hdr_len_of s + type_off_of s + type_len_of s) (hdr_len_of s + type_off_of s)) ≡ index_of s
   unfolding index_of types_of
@@ -371,11 +372,11 @@ module _ (p modes : ℕ) (s w t : List ℕ) where
   unfolding examined
   is_sound_lem e = rw (e, examined)
 
-  opens_refused : eqb num 0 ≡ false → opening_of p modes s w t ≡ refused num w t
+  pub opens_refused : eqb num 0 ≡ false → opening_of p modes s w t ≡ refused num w t
   unfolding opening_of
   opens_refused e = rw (e, opening_of)
 
-  opens_sound : eqb num 0 ≡ true → opening_of p modes s w t ≡ opened (types_of s) (enumerators_of s) (work_of p modes s (length w)) (replicate (length t) 0)
+  pub opens_sound : eqb num 0 ≡ true → opening_of p modes s w t ≡ opened (types_of s) (enumerators_of s) (work_of p modes s (length w)) (replicate (length t) 0)
   unfolding opening_of
   opens_sound e = rw (e, opening_of)
 

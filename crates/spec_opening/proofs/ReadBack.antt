@@ -7,8 +7,8 @@ use mathlib.Core.Logic.{⊎_elim, inl, ◌≢◌}
 use native.Mathlib.Omega.{arith}
 use lib.ListN.{length, get_or, replicate, length-replicate}
 use borrow.Author.Tests.{ltb-false, not-false, ne_eqb, le-leb, lt-leb}
+use Rattle.std.proofs.lemmas.Bool.{cases_lt}
 use Rattle.spec_bytes.specs.words.Words.{get_word}
-use Rattle.spec_bytes.proofs.words.Laws.{le_or_lt}
 use Rattle.spec_type_table.specs.declared.types.TypeTable.{TypeTable}
 use Rattle.spec_type_table.specs.declared.types.BtfType.{BtfType}
 use Rattle.spec_type_table.specs.Cells.{get_field, class_p, count_p}
@@ -141,9 +141,9 @@ module _ (p modes : ℕ) (s : List ℕ) (n : ℕ) (ok : opening_number p s n ≡
   unfolding cause6
   followed_below x k l m =
       ⊎_elim
-      (λ q. absurd (true≢false (sym ((bad_reference (table_of p s) s start).1 (is_bad q)) ∙ none.1.1.1.1.1.0)))
       (λ q. omega (arith, counted_all))
-      (le_or_lt (type_count (table_of p s)) (followed_id (table_of p s) s start x k))
+      (λ q. absurd (true≢false (sym ((bad_reference (table_of p s) s start).1 (is_bad q)) ∙ none.1.1.1.1.1.0)))
+      (cases_lt (followed_id (table_of p s) s start x k) (type_count (table_of p s)))
     where
       is_bad : type_count (table_of p s) ≤ followed_id (table_of p s) s start x k → BadReference (table_of p s) s start
       is_bad q = record { x = x; k = k; type = omega (arith, counted_all); followed = m; bad = inl q }

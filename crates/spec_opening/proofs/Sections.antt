@@ -10,8 +10,9 @@ use native.Mathlib.Decide.{ℕ_discrete}
 use lib.ListN.{length, drop, set, length-map}
 use lib.Dec.{ltb, leb, eqb}
 use borrow.Author.Tests.{lt-ltb, le-ltb, ne_eqb, leb-true}
+use Rattle.std.proofs.lemmas.Bool.{cases_lt}
+use Rattle.std.specs.Cmp.{first_so, second_so}
 use Rattle.spec_bytes.specs.words.Words.{pick}
-use Rattle.spec_bytes.proofs.words.Laws.{le_or_lt}
 use Rattle.spec_type_table.specs.declared.types.TypeTable.{TypeTable}
 use Rattle.spec_type_table.specs.Records.{section_word}
 use Rattle.spec_type_table.proofs.Documented.{words_same}
@@ -26,15 +27,14 @@ use Rattle.spec_linux_btf.proofs.SectionFields.{area_word, area_words, area_leng
 use Rattle.spec_linux_btf.proofs.SectionTests.{types_places}
 use Rattle.btf_open_causes.specs.records.Pass.{enums_of, count_p, enums_p, index_p}
 use Rattle.spec_opening.specs.Table.{types_of, values_in, enumerators_in, all_enumerators, enumerators_of, record_place, record_kind, empty_index, index_for}
-use Rattle.btf_open_causes.proofs.header.Headers.{and_left, and_right}
 use Rattle.btf_open_causes.proofs.records.Pass.{steady, kind_past, count_in, count_end, enums_in, enums_end, passes_in}
 
 module _ where
   ltb_same : (a b c d : ℕ) → (a < b → c < d) → (c < d → a < b) → ltb a b ≡ ltb c d
-  ltb_same a b c d f g = ⊎_elim (λ l. le-ltb a b l ∙ sym (le-ltb c d (no' l))) (λ l. lt-ltb a b l ∙ sym (lt-ltb c d (f l))) (le_or_lt b a)
+  ltb_same a b c d f g = ⊎_elim (λ l. lt-ltb a b l ∙ sym (lt-ltb c d (f l))) (λ l. le-ltb a b l ∙ sym (le-ltb c d (no' l))) (cases_lt a b)
     where
       no' : b ≤ a → d ≤ c
-      no' l = ⊎_elim (λ m. m) (λ m. absurd (omega (arith, g m))) (le_or_lt d c)
+      no' l = ⊎_elim (λ m. absurd (omega (arith, g m))) (λ m. m) (cases_lt c d)
 
 -- ---- places counted from the area's start, and from the section's
 module _ (u : ℕ → ℕ) (f : ℕ) where
@@ -72,11 +72,11 @@ unfolding count_p
 count_places big zero b p = ap length (places_none big b p)
 count_places big (suc n) b p =
     ⊎_elim
-    (λ l. ap length (places_out big 0 n b p l) ∙ sym (count_end (word big b) 0 (length b) p l (suc n)))
     (λ l. ap length (places_in big 0 n b p l)
     ∙ ap suc (count_places big n b (p + size_at big (drop p b)) ∙ ap (λ (z : ℕ). count_p (word big b) n (length b) (p + z)) (size_places big b p))
     ∙ sym (count_in (word big b) 0 (length b) p n l))
-    (le_or_lt (length b) p)
+    (λ l. ap length (places_out big 0 n b p l) ∙ sym (count_end (word big b) 0 (length b) p l (suc n)))
+    (cases_lt p (length b))
 
 each_long : {E : Type 0} (get : List ℕ → E) (size n : ℕ) (r : List ℕ) → length (get_each get size n r) ≡ n
 each_long get size zero r = refl
@@ -99,12 +99,12 @@ values_body big f v e k =
     others : (k ≡ 6 → ⊥) → (k ≡ 19 → ⊥) → g k ≡ 0
     others a b =
         ⊎_elim
-        (λ l. ap (λ (q : Kind). values_in (get_body big q f v e)) (kind_past k l))
         (λ l. ⊎_elim
-        (λ m. steady g 0 7 12 k (refl, (refl, (refl, (refl, (refl, (refl, (refl, (refl, (refl, (refl, (refl, (refl, tt)))))))))))) m (below b l))
         (λ m. steady g 0 0 6 k (refl, (refl, (refl, (refl, (refl, (refl, tt)))))) zero-le (under a m))
-        (le_or_lt 7 k))
-        (le_or_lt 20 k)
+        (λ m. steady g 0 7 12 k (refl, (refl, (refl, (refl, (refl, (refl, (refl, (refl, (refl, (refl, (refl, (refl, tt)))))))))))) m (below b l))
+        (cases_lt k 7))
+        (λ l. ap (λ (q : Kind). values_in (get_body big q f v e)) (kind_past k l))
+        (cases_lt k 20)
       where
         below : (k ≡ 19 → ⊥) → k < 20 → k < 19
         below b l = omega (arith, b)
@@ -121,12 +121,12 @@ unfolding enums_p
 enums_places big zero b p = ap (λ (l : List ℕ). all_enumerators (map (type_at big b) l)) (places_none big b p)
 enums_places big (suc n) b p =
     ⊎_elim
-    (λ l. ap (λ (q : List ℕ). all_enumerators (map (type_at big b) q)) (places_out big 0 n b p l) ∙ sym (enums_end (word big b) 0 (length b) p l (suc n)))
     (λ l. ap (λ (q : List ℕ). all_enumerators (map (type_at big b) q)) (places_in big 0 n b p l)
     ∙ (λ i. (values_decode big (drop p b) ∙ ap enums_of (word_drop big b p 4)) i
     + (enums_places big n b (p + size_at big (drop p b)) ∙ ap (λ (z : ℕ). enums_p (word big b) n (length b) (p + z)) (size_places big b p)) i)
     ∙ sym (enums_in (word big b) 0 (length b) p n l))
-    (le_or_lt (length b) p)
+    (λ l. ap (λ (q : List ℕ). all_enumerators (map (type_at big b) q)) (places_out big 0 n b p l) ∙ sym (enums_end (word big b) 0 (length b) p l (suc n)))
+    (cases_lt p (length b))
 
 -- ---- where the records are sound, only words inside the area count
 module _ (w u : ℕ → ℕ) (len : ℕ) (same : (q : ℕ) → q + 4 ≤ len → w q ≡ u q) (sl : ℕ) where
@@ -136,25 +136,25 @@ module _ (w u : ℕ → ℕ) (len : ℕ) (same : (q : ℕ) → q + 4 ≤ len →
 
   module _ (n p : ℕ) (l : p < len) (h : passes_p sl (suc n) w len p ≡ true) where
     is_sound_lem : sound_p w len p ≡ true
-    is_sound_lem = and_left (sound_p w len p) _ (sym (passes_in w sl len p n l) ∙ h)
+    is_sound_lem = first_so (sound_p w len p) _ (sym (passes_in w sl len p n l) ∙ h)
 
     rest_passes : passes_p sl n w len (p + size_p w p) ≡ true
-    rest_passes = and_right (named_p sl w p) _ (and_right (sound_p w len p) _ (sym (passes_in w sl len p n l) ∙ h))
+    rest_passes = second_so (named_p sl w p) _ (second_so (sound_p w len p) _ (sym (passes_in w sl len p n l) ∙ h))
 
     twelve : p + 12 ≤ len
     unfolding sound_p
-    twelve = leb-true (p + 12) len (and_left (leb (p + 12) len) _ is_sound_lem)
+    twelve = leb-true (p + 12) len (first_so (leb (p + 12) len) _ is_sound_lem)
 
   pub count_same : (n p : ℕ) → passes_p sl n w len p ≡ true → count_p w n len p ≡ count_p u n len p
   unfolding count_p
   count_same zero p h = refl
   count_same (suc n) p h =
       ⊎_elim
-      (λ l. count_end w 0 len p l (suc n) ∙ sym (count_end u 0 len p l (suc n)))
       (λ l. count_in w 0 len p n l
       ∙ ap suc (count_same n (p + size_p w p) (rest_passes n p l h) ∙ ap (λ (z : ℕ). count_p u n len (p + z)) (size_one p (twelve n p l h)))
       ∙ sym (count_in u 0 len p n l))
-      (le_or_lt len p)
+      (λ l. count_end w 0 len p l (suc n) ∙ sym (count_end u 0 len p l (suc n)))
+      (cases_lt p len)
 
   info_one : (p : ℕ) → p + 12 ≤ len → w (p + 4) ≡ u (p + 4)
   info_one p l = same (p + 4) (omega arith)
@@ -164,12 +164,12 @@ module _ (w u : ℕ → ℕ) (len : ℕ) (same : (q : ℕ) → q + 4 ≤ len →
   enums_same zero p h = refl
   enums_same (suc n) p h =
       ⊎_elim
-      (λ l. enums_end w 0 len p l (suc n) ∙ sym (enums_end u 0 len p l (suc n)))
       (λ l. enums_in w 0 len p n l
       ∙ (λ i. enums_of (info_one p (twelve n p l h) i)
       + (enums_same n (p + size_p w p) (rest_passes n p l h) ∙ ap (λ (z : ℕ). enums_p u n len (p + z)) (size_one p (twelve n p l h))) i)
       ∙ sym (enums_in u 0 len p n l))
-      (le_or_lt len p)
+      (λ l. enums_end w 0 len p l (suc n) ∙ sym (enums_end u 0 len p l (suc n)))
+      (cases_lt p len)
 
 -- ---- THE THEOREMS: what the code reads in the section, by places, is what the documentation reads
 module _ (b : TypeTable) (s : List ℕ) (o : b.big_endian ≡ is_big_endian s) where

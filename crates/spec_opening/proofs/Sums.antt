@@ -7,8 +7,9 @@ use mathlib.Core.Logic.{⊎_elim}
 use native.Mathlib.Omega.{arith}
 use lib.ListN.{length, get_or}
 use lib.Dec.{eqb}
+use Rattle.std.proofs.lemmas.Bool.{cases_lt}
+use Rattle.std.specs.Cmp.{first_so, second_so}
 use Rattle.spec_bytes.specs.words.Words.{pick}
-use Rattle.spec_bytes.proofs.words.Laws.{le_or_lt}
 use Rattle.spec_type_table.specs.declared.types.TypeTable.{TypeTable}
 use Rattle.spec_type_table.specs.Records.{section_word, vlen_of, kind_of}
 use Rattle.spec_linux_btf.specs.Reading.{kind, extra}
@@ -18,7 +19,6 @@ use Rattle.spec_linux_btf.proofs.SectionFields.{from_next, area_inside}
 use Rattle.btf_open_causes.specs.records.Pass.{enums_of, count_p, enums_p}
 use Rattle.spec_opening.specs.Table.{types_of, enumerators_of, record_place, record_kind, index_of}
 use Rattle.btf_open_names.specs.filled_work.Left.{is_enum, values_at, enums_to}
-use Rattle.btf_open_causes.proofs.header.Headers.{and_left, and_right}
 use Rattle.btf_open_causes.proofs.records.Pass.{enums_small, ends_in, count_in, count_end, enums_in, enums_end, passes_in}
 use Rattle.spec_opening.proofs.Sections.{pass_decides, pass_count, pass_enums, place_is, kind_is}
 use Rattle.spec_opening.proofs.Index.{index_place, index_kind}
@@ -48,12 +48,12 @@ unfolding count_p enums_p
 enums_sum w zero end p = sym (sum_none w p)
 enums_sum w (suc n) end p =
     ⊎_elim
-    (λ l. enums_end w 0 end p l (suc n) ∙ sym (ap (sum_to w p) (count_end w 0 end p l (suc n)) ∙ sum_none w p))
     (λ l. enums_in w 0 end p n l
     ∙ ap (λ (z : ℕ). enums_of (w (p + 4)) + z) (enums_sum w n end (p + size_p w p))
     ∙ sym (sum_front w p (count_p w n end (p + size_p w p)))
     ∙ ap (sum_to w p) (sym (count_in w 0 end p n l)))
-    (le_or_lt end p)
+    (λ l. enums_end w 0 end p l (suc n) ∙ sym (ap (sum_to w p) (count_end w 0 end p l (suc n)) ∙ sum_none w p))
+    (cases_lt p end)
 
 -- an enumerator takes 8 bytes at least
 size_enums : (w : ℕ → ℕ) (p : ℕ) → enums_of (w (p + 4)) * 8 + 12 ≤ size_p w p
@@ -67,14 +67,14 @@ unfolding enums_p
 enums_bound w sl zero end p h l = omega arith
 enums_bound w sl (suc n) end p h l =
     ⊎_elim
-    (λ m. omega (arith, enums_end w 0 end p m (suc n)))
     (λ m.
     let both = sym (passes_in w sl end p n m) ∙ h in
-    let ends : p + size_p w p ≤ end = ends_in w sl end p (and_left (sound_p w end p) _ both) in
+    let ends : p + size_p w p ≤ end = ends_in w sl end p (first_so (sound_p w end p) _ both) in
     let ih : enums_p w n end (p + size_p w p) * 8 + (p + size_p w p) ≤ end =
-    enums_bound w sl n end (p + size_p w p) (and_right (named_p sl w p) _ (and_right (sound_p w end p) _ both)) ends in
+    enums_bound w sl n end (p + size_p w p) (second_so (named_p sl w p) _ (second_so (sound_p w end p) _ both)) ends in
     omega (arith, enums_in w 0 end p n m, size_enums w p))
-    (le_or_lt end p)
+    (λ m. omega (arith, enums_end w 0 end p m (suc n)))
+    (cases_lt p end)
 
 -- what the index tells of a type's values is what its record does
 values_same : (k v : ℕ) → (elim (is_enum k) as (λ z. ℕ) [ true ↦ v | false ↦ 0 ]) ≡ pick (eqb k 6) v (pick (eqb k 19) v 0)

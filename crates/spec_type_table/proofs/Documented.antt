@@ -1,7 +1,7 @@
 -- What the code reads of a record is the type that the Linux documentation describes there. Assumes nothing.
 use Prim.Native.Nat.{ℕ, zero, suc, ◌+◌, ◌-◌, ◌*◌, ◌/◌, ◌%◌, ◌<◌, ◌≤◌}
 use mathlib.Core.Path.{◌≡◌, refl, ap, ap₂, ◌∙◌, sym}
-use mathlib.Core.Bool.{Bool, true, false}
+use mathlib.Core.Bool.{Bool, true, false, false≢true}
 use mathlib.Core.List.{List, ◌∷◌}
 use mathlib.Core.Logic.{⊎_elim}
 use native.Mathlib.Omega.{arith}
@@ -9,13 +9,13 @@ use native.Mathlib.Numerals.{add-one}
 use lib.Dec.{leb}
 use lib.ListN.{length, get_or, get_or-eq_default}
 use borrow.Author.Tests.{le-leb, lt-leb}
+use Rattle.std.proofs.lemmas.Bool.{cases_lt}
+use Rattle.std.specs.Cmp.{first_so, second_so}
 use Rattle.spec_bytes.specs.words.Words.{word_in}
-use Rattle.spec_bytes.proofs.words.Laws.{le_or_lt}
 use Rattle.spec_linux_btf.specs.Documentation.{Described}
 use Rattle.spec_linux_btf.specs.Reading.{Bytes, decode_all, Kind, none, kind_table, kind, shape, known}
 use Rattle.spec_linux_btf.specs.Places.{member_p, param_p, enumerator_p, enumerator64_p, tabulate, type_p, place_from, kind_p, sound_p}
 use Rattle.spec_linux_btf.specs.Section.{is_big_endian, word_of, types_at, type_len_of, type_area, header_sound, types_sound}
-use Rattle.spec_linux_btf.proofs.Types.{and_left, and_right}
 use Rattle.spec_linux_btf.proofs.Fields as F
 use Rattle.spec_linux_btf.proofs.Claims as Claims
 use Rattle.spec_c_dumper.specs.rules.Types.{Array, Composite, Enum, Enum64, Fwd, FuncProto, DeclTag, TypeTag}
@@ -29,7 +29,7 @@ use Rattle.spec_type_table.proofs.KindLaws as K
 
 -- kind_flag is bit 31 of info
 flag_is : (info : ℕ) → flag_of info ≡ is_set (info / 2147483648)
-flag_is info = ⊎_elim set clear (le_or_lt 2147483648 info)
+flag_is info = ⊎_elim clear set (cases_lt info 2147483648)
   where
     set : 2147483648 ≤ info → flag_of info ≡ is_set (info / 2147483648)
     set l =
@@ -110,15 +110,12 @@ module _ (b : TypeTable) (s : List ℕ) (p : ℕ) where
       t : Record
       t = record_at b s p
 
-false_true : false ≡ true → ⊥
-false_true q = let k : ◌≡◌ {A = ℕ} 0 1 = cc in omega arith
-
 -- a kind that the documentation has is one of 1 to 19
 known_range : (k : ℕ) → known (shape (kind k)) ≡ true → (1 ≤ k) × (k < 20)
 unfolding kind
 known_range =
     K.by_kind (λ k. known (shape (kind k)) ≡ true → (1 ≤ k) × (k < 20))
-    (λ h. absurd (false_true h))
+    (λ h. absurd (false≢true h))
     (λ h. (omega arith, omega arith))
     (λ h. (omega arith, omega arith))
     (λ h. (omega arith, omega arith))
@@ -138,7 +135,7 @@ known_range =
     (λ h. (omega arith, omega arith))
     (λ h. (omega arith, omega arith))
     (λ h. (omega arith, omega arith))
-    (λ k m h. absurd (false_true (sym (ap (λ (n : Kind). known (shape n)) (get_or-eq_default kind_table none m)) ∙ h)))
+    (λ k m h. absurd (false≢true (sym (ap (λ (n : Kind). known (shape n)) (get_or-eq_default kind_table none m)) ∙ h)))
 
 -- every word of a section is read by `section_word`; where the table has the section's order, in that
 pub words_same : (b : TypeTable) (s : List ℕ) → b.big_endian ≡ is_big_endian s → section_word b s ≡ word_of s
@@ -147,7 +144,7 @@ words_same b s e = ap (λ (big : Bool). word_in big s) e
 
 sound_known : (w : ℕ → ℕ) (len p : ℕ) → sound_p w len p ≡ true → known (shape (kind (kind_of (w (p + 4))))) ≡ true
 unfolding sound_p kind_p
-sound_known w len p h = and_left _ _ (and_right (leb (p + 12) len) _ h)
+sound_known w len p h = first_so _ _ (second_so (leb (p + 12) len) _ h)
 
 -- Linux documentation, 2.2: for a section that passes causes 3 and 5, what the code reads at the place of record i is type i of the one list of
 -- described types whose layout is the section's type area (Claims of `spec_linux_btf`), field by field, as the Rust keeps it.

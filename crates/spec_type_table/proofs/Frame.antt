@@ -7,9 +7,11 @@ use mathlib.Core.Bool.{Bool, true, false, ◌&&◌}
 use mathlib.Core.Logic.{⊎_elim, ◌≢◌}
 use native.Mathlib.Omega.{arith}
 use lib.Dec.{ltb, leb, eqb}
+use lib.ListN.{length}
 use borrow.Author.Tests.{ltb-true}
+use Rattle.std.proofs.lemmas.Bool.{cases_lt}
 use Rattle.spec_bytes.specs.words.Words.{get_word, put_word}
-use Rattle.spec_bytes.proofs.words.Laws.{get_put_other, le_or_lt}
+use Rattle.spec_bytes.proofs.words.Laws.{get_put_other, put_length}
 use Rattle.spec_c_dumper.specs.rules.Names.{Resolved}
 use Rattle.spec_type_table.specs.declared.types.TypeTable.{TypeTable}
 use Rattle.spec_type_table.specs.declared.types.BtfType.{BtfType as Record}
@@ -32,9 +34,9 @@ module _ (types c j : ℕ) where
   count_apart : (g : ℕ) → (j * 16 + g ≡ c * 16 + 6 → ⊥) → (j * 16 + g ≡ types * 16 + (c - types) * 8 + 2 → ⊥) → j * 16 + g ≢ count_p types c
   count_apart g a b e =
       ⊎_elim
-      (λ l. b (e ∙ sym (place_enum types 6 2 c l)))
       (λ l. a (e ∙ sym (place_type types 6 2 c l)))
-      (le_or_lt types c)
+      (λ l. b (e ∙ sym (place_enum types 6 2 c l)))
+      (cases_lt c types)
 
   pub count_0 : j * 16 + 0 ≢ count_p types c
   count_0 = count_apart 0 (λ e. omega arith) (λ e. omega arith)
@@ -110,7 +112,15 @@ module _ (w : List ℕ) (id f v : ℕ) (below : f < 16) where
 
 -- ---- one more holder of a name
 module _ (w : List ℕ) (i : ℕ) where
-  more_other : (k : ℕ) → k ≢ i → get_word (with_more w i) k ≡ get_word w k
+  pub more_length : length (with_more w i) ≡ length w
+  unfolding with_more
+  more_length = go (ltb (get_word w i) 4294967295)
+    where
+      go : (t : Bool) → length {A = ℕ} (elim t as (λ z. List ℕ) [ true ↦ put_word w i (get_word w i + 1) | false ↦ w ]) ≡ length w
+      go true = put_length w i (get_word w i + 1)
+      go false = refl
+
+  pub more_other : (k : ℕ) → k ≢ i → get_word (with_more w i) k ≡ get_word w k
   unfolding with_more
   more_other k n = go (ltb (get_word w i) 4294967295)
     where

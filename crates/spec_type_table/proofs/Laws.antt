@@ -1,8 +1,8 @@
 -- The places of the words of types and enumerators. Assumes nothing.
-use Prim.Native.Nat.{ℕ, ◌+◌, ◌-◌, ◌*◌, ◌/◌, ◌%◌, ◌<◌, ◌≤◌}
+use Prim.Native.Nat.{ℕ, ◌+◌, ◌-◌, ◌*◌, ◌/◌, ◌%◌, ◌<◌, ◌≤◌, zero, suc}
 use mathlib.Core.Path.{◌≡◌, refl, ap, ap₂, ◌∙◌}
 use mathlib.Core.List.{List}
-use lib.ListN.{get_or}
+use lib.ListN.{get_or, length}
 use mathlib.Core.Bool.{true, false}
 use borrow.Author.Tests.{lt-ltb, le-ltb, le-leb, lt-leb, ne_eqb}
 use Rattle.spec_bytes.specs.words.Words.{get_word, put_word, one_more}
@@ -11,6 +11,7 @@ use Rattle.spec_type_table.specs.declared.types.TypeTable.{TypeTable}
 use Rattle.spec_type_table.specs.declared.types.BtfType.{BtfType as Record}
 use Rattle.spec_type_table.specs.Cells.{place_of, class_p, count_p, count_after, count_raised, with_more, get_field}
 use Rattle.spec_type_table.specs.Records.{section_word, section_three, record_at, void_record, record_by_id, member_at, member_of, flag_of}
+use Rattle.spec_type_table.specs.Table.{from}
 
 module _ (t f g : ℕ) where
   pub place_type : (h : ℕ) → h < t → h * 16 + f ≡ place_of t f g h
@@ -66,6 +67,11 @@ module _ (b : TypeTable) (s : List ℕ) where
   unfolding record_at section_three
   record_is at w e = λ i. record { at = at; name_off = item at w e 0 i; info = item at w e 1 i; type_id = item at w e 2 i }
 
+  -- void is the default, word by word
+  pub void_is : (r : Record) → (r.at ≡ 0) × ((r.name_off ≡ 0) × ((r.info ≡ 0) × (r.type_id ≡ 0))) → r ≡ void_record
+  unfolding void_record
+  void_is r (a, (n, (i, t))) = λ j. record { at = a j; name_off = n j; info = i j; type_id = t j }
+
   pub void_zero : (w : List ℕ) (id : ℕ) (r : Record) → id ≡ 0 → r ≡ void_record → r ≡ record_by_id b s w id
   unfolding record_by_id
   void_zero w id r z e = rw z e
@@ -93,3 +99,8 @@ module _ (b : TypeTable) (s : List ℕ) where
   pub value64_is : (at k p : ℕ) (w : List ℕ) → p ≡ member_at at k → w ≡ section_three b s p → get_or w 2 0 * 4294967296 + get_or w 1 0 ≡ section_word b s (member_at at k + 8) * 4294967296 + section_word b s (member_at at k + 4)
   unfolding section_three
   value64_is at k p w ep ew = let q = item (member_at at k) w (ew ∙ ap (section_three b s) ep) in ap₂ (λ (x y : ℕ). x * 4294967296 + y) (q 2) (q 1)
+
+pub length_from : {E : Type 0} (f : ℕ → E) (k n : ℕ) → length (from f k n) ≡ n
+unfolding from
+length_from f k zero = refl
+length_from f k (suc n) = ap suc (length_from f (k + 1) n)

@@ -22,10 +22,10 @@ use Rattle.std.specs.Cmp.Lexicographic.{pointwise}
 use Rattle.std.proofs.lemmas.Iterator.{YieldsList}
 use Rattle.std.specs.List.{position_or_len}
 use borrow.Author.Tests.{eq-eqb, ne_eqb, eqb-true, eqb-false, le-leb, lt-leb}
+use Rattle.std.proofs.lemmas.Bool.{cases_lt}
 use Rattle.spec_bytes.specs.declared.refusal.Refusal.{Refusal}
 use Rattle.spec_bytes.specs.text.Text.{whole}
 use Rattle.spec_bytes.specs.text.Placed.{Placed, put_out, put_text}
-use Rattle.spec_bytes.proofs.words.Laws.{le_or_lt}
 use Rattle.spec_bytes.proofs.text.TextLaws.{put_seq, put_same, put_empty, put_halts}
 use Rattle.spec_c_dumper.specs.rules.Types.{is_empty}
 use Rattle.spec_c_dumper.specs.rules.Names.{starts_with, contains, escaped_byte, escaped}
@@ -48,15 +48,15 @@ module _ (s : List ℕ) (i : ℕ) where
 
   pub name_zero : get_or s i 0 ≡ 0 → name_at s i ≡ []
   unfolding name_at
-  name_zero e = ⊎_elim name_end (λ h. ap up_to_zero (drop-cons s i 0 h) ∙ up_zero (get_or s i 0) (drop (suc i) s) e) (le_or_lt (length s) i)
+  name_zero e = ⊎_elim (λ h. ap up_to_zero (drop-cons s i 0 h) ∙ up_zero (get_or s i 0) (drop (suc i) s) e) name_end (cases_lt i (length s))
 
   pub name_more : (get_or s i 0 ≡ 0 → ⊥) → name_at s i ≡ get_or s i 0 ∷ name_at s (i + 1)
   unfolding name_at
   name_more n =
       ⊎_elim
-      (λ h. absurd (n (get_or-eq_default s 0 h)))
       (λ h. rw add-one (ap up_to_zero (drop-cons s i 0 h) ∙ up_more _ _ n))
-      (le_or_lt (length s) i)
+      (λ h. absurd (n (get_or-eq_default s 0 h)))
+      (cases_lt i (length s))
 
 -- what stands before the first 0
 pass_first : (x : ℕ) (l : List ℕ) → (x ≡ 0 → ⊥) → position_or_len (λ y. y == 0) (x ∷ l) ≡ suc (position_or_len (λ y. y == 0) l)
@@ -130,7 +130,7 @@ module _ (n : ℕ) (h : 0 < n) where
   Gives l = (s : Windows ℕ) → windows_size s ≡ n → windows_rest s ≡ l → AlwaysYields windows_steps (λ y. y.now) s (windows_of n l)
 
   gives_more : (y : ℕ) (l : List ℕ) → Gives l → Gives (y ∷ l)
-  gives_more y l ih s en el = ⊎_elim inside outside (le_or_lt n (suc (length l)))
+  gives_more y l ih s en el = ⊎_elim outside inside (cases_lt (suc (length l)) n)
     where
       e : length (windows_rest s) ≡ suc (length l)
       e = ap length el
@@ -174,7 +174,7 @@ has_window w l = list_any (λ p. pointwise eqb p w) (windows_of (length w) l)
 
 window_more : (w : List ℕ) (x : ℕ) (l : List ℕ) → has_window w l ≡ contains w l → has_window w (x ∷ l) ≡ contains w (x ∷ l)
 unfolding contains
-window_more w x l ih = ⊎_elim inside outside (le_or_lt (length w) (suc (length l)))
+window_more w x l ih = ⊎_elim outside inside (cases_lt (suc (length l)) (length w))
   where
     by_front : (t : Bool) → t || has_window w l ≡ elim t as (λ x. Bool) [ true ↦ true | false ↦ contains w l ]
     by_front true = refl

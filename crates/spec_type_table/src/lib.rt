@@ -1,5 +1,5 @@
 // A type table read from the bytes of its section: header, records, names. Structs, definitions and laws; the code stands in
-// `cells`, `kinds`, `sections`, `entries` and `btf_type_table::node`.
+// `btf_type_table`.
 #![tactic(auto)]
 
 mod kind;

@@ -28,8 +28,8 @@ pub struct BtfMember {
     pub bit_size: u32,
 }
 
-// struct btf_type and the place where it stands; type_id is the size of kinds that have one. Void is all zeros.
-#[derive(Clone, Copy)]
+// struct btf_type and the place where it stands; type_id is the size of kinds that have one. Void is the default, all zeros.
+#[derive(Clone, Copy, Default)]
 pub struct BtfType {
     pub at: u32,
     pub name_off: u32,

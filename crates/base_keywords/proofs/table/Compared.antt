@@ -1,7 +1,7 @@
 -- Laws of a text compared with a part of the table. Assumes nothing.
 use Prim.Native.Nat.{ℕ, ◌+◌, ◌≤◌}
 use mathlib.Core.Path.{◌≡◌, refl, ap, ◌∙◌}
-use mathlib.Core.Bool.{Bool, true, false, ◌&&◌}
+use mathlib.Core.Bool.{Bool, true, false}
 use mathlib.Core.List.{List, [], ◌∷◌}
 use native.Mathlib.Omega.{arith}
 use lib.ListN.{length, drop, length-drop}
@@ -9,19 +9,8 @@ use lib.Seq.{length-take-le}
 use lib.Pointwise.{pointwise}
 use lib.Dec.{eqb}
 use Rattle.spec_c_dumper.specs.rules.Names.{same_bytes}
+use Rattle.spec_c_dumper.proofs.rules.Names.{compared}
 use Rattle.base_keywords.specs.table.Fixed.{part}
-
--- `==` of two slices
-pub compared : (a b : List ℕ) → pointwise eqb a b ≡ same_bytes a b
-unfolding same_bytes
-compared [] [] = refl
-compared [] (y ∷ b) = refl
-compared (x ∷ a) [] = refl
-compared (x ∷ a) (y ∷ b) = go (eqb x y) (compared a b)
-  where
-    go : (t : Bool) → pointwise eqb a b ≡ same_bytes a b → (t && pointwise eqb a b) ≡ elim t [ true ↦ same_bytes a b | false ↦ false ]
-    go true e = e
-    go false e = refl
 
 other_lengths : (a b : List ℕ) → (length a ≡ length b → ⊥) → false ≡ same_bytes a b
 unfolding same_bytes

@@ -1,11 +1,11 @@
 -- What each return of align_once and members_once comes to. Assumes nothing.
-use Prim.Native.Nat.{ℕ, zero, suc, ◌+◌, ◌-◌, ◌<◌, ◌≤◌}
+use Prim.Native.Nat.{ℕ, suc, ◌+◌, ◌-◌, ◌<◌, ◌≤◌}
 use native.Mathlib.Omega.{arith}
 use mathlib.Core.Path.{◌≡◌, refl, ap, ◌∙◌, sym, subst}
 use mathlib.Core.List.{List}
 use mathlib.Core.Logic.{⊎_elim}
 use lib.ListN.{length}
-use Rattle.spec_bytes.proofs.words.Laws.{le_or_lt}
+use Rattle.std.proofs.lemmas.Bool.{cases_lt}
 use Rattle.spec_c_dumper.specs.rules.Types.{Member, member_types, BtfType, Btf as Rules}
 use Rattle.spec_type_table.specs.declared.types.TypeTable.{TypeTable}
 use Rattle.spec_type_table.specs.declared.types.BtfType.{BtfType as Record}
@@ -24,6 +24,7 @@ use Rattle.spec_type_table.specs.declared.kind.Kind.{Kind}
 use Rattle.spec_type_table.specs.declared.kind.Kind.TheVariants.{Void, Int, Ptr, Array, Struct, Union, Enum, Fwd, Typedef, Volatile, Const, Restrict, Func, FuncProto, Var, Datasec, Float, DeclTag, TypeTag, Enum64, Unknown}
 use Rattle.spec_type_table.specs.Kinds.{kind_named}
 use Rattle.spec_type_table.proofs.KindTypes.{type_as, type_is}
+use Rattle.spec_type_table.proofs.Laws.{length_from}
 use Rattle.btf_layout.specs.declared.align_of.Step.{Step}
 use Rattle.btf_layout.specs.declared.align_of.Step.TheVariants.{Own, Through, Members}
 use Rattle.btf_layout.specs.remembered.Words.{seen_word, decoded, coded, remembered, work_keep, once_of, height_of, taken_by, forget, once_with, anew_with, ids_once, ids_with, kept_with, seen_is, known_of, step_by, step_at}
@@ -79,9 +80,9 @@ module _ (types : ℕ) (B : Rules) (left id : ℕ) (w : List ℕ) where
       once_taken x e r er =
           let u = unroll (known (seen_is x)) (sym eq ∙ ap known_of e) in
           ⊎_elim
-          (λ l. ap (λ (a : Answer). once_of a w) (er ∙ sym (taken_fits x left l)) ∙ sym (u ∙ ap forget (taken_found left (seen_is x) w 0 l)))
           (λ l. ap (λ (a : Answer). once_of a w) (er ∙ sym (taken_over x left l)) ∙ sym (u ∙ ap forget (taken_refused left (seen_is x) w 0 l)))
-          (le_or_lt x.height left)
+          (λ l. ap (λ (a : Answer). once_of a w) (er ∙ sym (taken_fits x left l)) ∙ sym (u ∙ ap forget (taken_found left (seen_is x) w 0 l)))
+          (cases_lt left x.height)
 
       pub once_anew : q ≡ None → once_with types B left id w ≡ anew_with types B (left - 1) id w
       unfolding known_of anew_with
@@ -135,11 +136,6 @@ module _ (b : TypeTable) (s w : List ℕ) (t : Record) (ask : ℕ → Asking (Li
   pub step_like : Like (type_of b s t) (step_at b s t)
   unfolding step_at
   step_like = subst (λ (T : BtfType). Like T (step_at b s t)) (sym (type_is b s t _ refl _ refl)) (like (kind_named (kind_of t.info)))
-
-length_from : {E : Type 0} (f : ℕ → E) (k n : ℕ) → length (from f k n) ≡ n
-unfolding from
-length_from f k zero = refl
-length_from f k (suc n) = ap suc (length_from f (k + 1) n)
 
 -- ---- what was found is remembered
 module _ (types id n : ℕ) where

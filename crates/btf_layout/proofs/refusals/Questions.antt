@@ -4,12 +4,12 @@ use mathlib.Core.Path.{refl}
 use mathlib.Core.Bool.{Bool, true, false, ◌&&◌}
 use mathlib.Core.List.{List, [], ◌∷◌}
 use mathlib.Core.Logic.{inl, inr}
-use lib.Dec.{ltb, leb, eqb}
-use Rattle.spec_c_dumper.specs.rules.Writer.{Ask, got, ask_then, checked, too_deep}
+use lib.Dec.{leb, eqb}
+use Rattle.spec_c_dumper.specs.rules.Writer.{Ask, checked, too_deep}
 use Rattle.spec_c_dumper.specs.rules.Types.{Member, BtfType, Void, Int, Ptr, Array, Composite, Enum, Enum64, Fwd, Typedef, Mod, Func, Var, Datasec, FuncProto, Float, DeclTag, TypeTag, Btf}
-use Rattle.spec_c_dumper.specs.rules.Layout.{get_size_of, end_of, pads_before}
-use Rattle.spec_c_dumper.specs.rules.Placing.{field_size, Extent, with_member, extent_of, no_extent, size_fits}
-use Rattle.spec_c_dumper.proofs.rules.Closed.{Code, Asks, gets, refuses, asks_size, asks_end}
+use Rattle.spec_c_dumper.specs.rules.Layout.{pads_before}
+use Rattle.spec_c_dumper.specs.rules.Placing.{extent_of, no_extent, size_fits}
+use Rattle.spec_c_dumper.proofs.rules.Closed.{Code, Asks, gets, refuses, asks_then, asks_if, asks_checked, asks_extent}
 use Rattle.spec_c_dumper.specs.alignment_once.Once.{Remembered, Known, unknown, known, Keep, Once, found, refused, Asking, once_then, widest, alone, members_once, taken, type_once, keep_once, align_once, alignment_once}
 use Rattle.spec_c_dumper.specs.alignment_once.Steps.{plainly, off_align_once, members_packed_once, packed_once, gap_align_once, padding_once, union_align_once, judged, measured_once, body_once}
 
@@ -33,33 +33,13 @@ module _ {M : Type 0} where
   coded_plainly _ (refuses c q) m k = q
 
 -- ---- what asks for no alignment
-then_asks : {A C : Type 0} (x : Ask A) (k : A → Ask C) → Asks x → ((a : A) → Asks (k a)) → Asks (ask_then x k)
-unfolding ask_then
-then_asks _ k (gets a) h = h a
-then_asks _ k (refuses c q) h = refuses c q
-
-if_asks : {A : Type 0} (b : Bool) (x y : Ask A) → Asks x → Asks y → Asks {A = A} (elim b [ true ↦ x | false ↦ y ])
-if_asks true x y hx hy = hx
-if_asks false x y hx hy = hy
-
-checked_asks : (n : ℕ) → Asks (checked n)
-unfolding checked
-checked_asks n = if_asks (ltb n 4294967296) _ _ (gets n) (refuses 16 (inr (inr (inl refl))))
-
 module _ (B : Btf) where
-  extent_asks : (is_struct packed : Bool) (x : Extent) (ms : List Member) → Asks (extent_of B is_struct packed x ms)
-  unfolding extent_of field_size
-  extent_asks is_struct packed x [] = gets _
-  extent_asks is_struct packed x (m ∷ ms) =
-      then_asks (elim (eqb m.bit_size 0) [ true ↦ got 0 | false ↦ get_size_of 512 B m.type_id ]) _ (if_asks (eqb m.bit_size 0) _ _ (gets 0) (asks_size B 512 m.type_id))
-      (λ size. then_asks (end_of B m) _ (asks_end B m) (λ end. extent_asks is_struct packed (with_member is_struct packed x size end m.bit_offset m.bit_size) ms))
-
   judged_asks : (is_struct : Bool) (sz : ℕ) (ms : List Member) (a : ℕ) (packed : Bool) → Asks (judged B is_struct sz ms a packed)
   unfolding judged
   judged_asks is_struct sz ms a packed =
-      then_asks (extent_of B is_struct packed no_extent ms) _ (extent_asks is_struct packed no_extent ms)
-      (λ x. then_asks (checked (8 * sz)) _ (checked_asks (8 * sz))
-      (λ bits. if_asks (x.fits && size_fits is_struct a x.last bits) _ _ (gets packed) (refuses 18 (inr (inr (inr refl))))))
+      asks_then (extent_of B is_struct packed no_extent ms) _ (asks_extent B is_struct packed no_extent ms)
+      (λ x. asks_then (checked (8 * sz)) _ (asks_checked (8 * sz))
+      (λ bits. asks_if (x.fits && size_fits is_struct a x.last bits) _ _ (gets packed) (refuses 18 (inr (inr (inr refl))))))
 
 -- ---- alignments
 module _ {M : Type 0} where

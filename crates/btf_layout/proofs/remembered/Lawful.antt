@@ -8,14 +8,16 @@ use mathlib.Core.Logic.{◌⊎◌, inl, inr, ⊎_elim}
 use lib.ListN.{length}
 use lib.Dec.{ltb, leb, eqb}
 use borrow.Author.Tests.{lt-ltb, le-leb, lt-leb, ne_eqb}
-use Rattle.spec_bytes.proofs.words.Laws.{le_or_lt, put_out, put_length, get_put_same, get_put_other}
+use Rattle.std.proofs.lemmas.Bool.{cases_lt}
+use Rattle.spec_bytes.proofs.words.Laws.{put_out, put_length, get_put_same, get_put_other}
 use Rattle.spec_c_dumper.specs.rules.Writer.{Ask, got, no, ask_then}
 use Rattle.spec_c_dumper.specs.rules.Types.{Member, BtfType, Void, Int, Ptr, Array, Composite, Enum, Enum64, Fwd, Typedef, Mod, Func, Var, Datasec, FuncProto, Float, DeclTag, TypeTag, Btf as Rules}
 use Rattle.spec_c_dumper.specs.rules.Layout.{larger, smaller, octets, align_members, align_of, get_align_of}
 use Rattle.spec_type_table.specs.Cells.{get_field, put_field}
 use Rattle.spec_type_table.proofs.Frame.{field_other}
 use Rattle.spec_c_dumper.specs.alignment_once.Once.{Remembered, known, Keep, Lawful, Tells, member_count}
-use Rattle.spec_c_dumper.proofs.alignment_once.Right.{no_got, both_below, within_got, same_or}
+use Rattle.spec_c_dumper.proofs.alignment_once.Right.{both_below, within_got, same_or}
+use Rattle.spec_c_dumper.proofs.rules.Asking.{no_got}
 use Rattle.btf_layout.specs.remembered.Words.{seen_word, decoded, coded, with_visits, remembered, work_keep}
 use Rattle.btf_layout.proofs.remembered.Laws.{coded_fits, coded_wide, coded_high, remember_none, remember_past, remember_here}
 
@@ -37,15 +39,15 @@ module _ (s : Remembered) where
   unfolding decoded
   decoded_back n =
       ⊎_elim
+      (λ l. absurd (n (sym (coded_wide s l))))
       (λ l. ⊎_elim
+      (λ h. absurd (n (sym (coded_high s l h))))
       (λ h. let e : s.height * 16 + s.align ≡ coded s = coded_fits s l h in
       let a : coded s % 16 ≡ s.align = omega arith in
       let b : coded s / 16 ≡ s.height = omega arith in
       rw (ne_eqb (coded s) 0 n, decoded) (λ i. known (record { align = a i; height = b i })))
-      (λ h. absurd (n (sym (coded_high s l h))))
-      (le_or_lt s.height 268435454))
-      (λ l. absurd (n (sym (coded_wide s l))))
-      (le_or_lt s.align 15)
+      (cases_lt 268435454 s.height))
+      (cases_lt 15 s.align)
 
 module _ (n id : ℕ) (w : List ℕ) where
   counted_field : get_field (with_visits n w) id 15 ≡ get_field w id 15
@@ -93,14 +95,14 @@ module _ (types : ℕ) (B : Rules) where
         same_or (coded s) 0
         (λ z. inr (ap (λ (x : List ℕ). decoded (seen_word types x id)) (sym (remember_none types id (coded s) n w z))))
         (λ nz. ⊎_elim
-        (λ l. inr (ap (λ (x : List ℕ). decoded (seen_word types x id)) (sym (remember_past types id (coded s) n w nz l))))
         (λ l. ⊎_elim
+        (λ r. inl (in_room nz l r))
         (λ r. inr (
         let q : length (with_visits n w) / 4 ≤ id * 16 + 15 = subst (λ (x : ℕ). x / 4 ≤ id * 16 + 15) (sym (counted_length n id w)) r in
         ap decoded (seen_is u id l ∙ ap (λ (x : List ℕ). get_field x id 15) (u_is nz l ∙ put_out (with_visits n w) (id * 16 + 15) (coded s) q) ∙ counted_field n id w ∙ sym (seen_is w id l))))
-        (λ r. inl (in_room nz l r))
-        (le_or_lt (length w / 4) (id * 16 + 15)))
-        (le_or_lt types id))
+        (cases_lt (id * 16 + 15) (length w / 4)))
+        (λ l. inr (ap (λ (x : List ℕ). decoded (seen_word types x id)) (sym (remember_past types id (coded s) n w nz l))))
+        (cases_lt id types))
 
     work_other : (d : ℕ) → (d ≡ id → ⊥) → seen_word types u d ≡ seen_word types w d
     unfolding seen_word remembered
@@ -131,7 +133,7 @@ module _ (B : Rules) (small : B.ptr_sz ≤ 15) where
 
   smaller_below : (x : ℕ) → smaller B.ptr_sz x ≤ 15
   unfolding smaller
-  smaller_below x = ⊎_elim (λ l. rw (le-leb B.ptr_sz x l, smaller) small) (λ l. rw (lt-leb B.ptr_sz x l, smaller) (omega arith)) (le_or_lt B.ptr_sz x)
+  smaller_below x = ⊎_elim (λ l. rw (lt-leb B.ptr_sz x l, smaller) (omega arith)) (λ l. rw (le-leb B.ptr_sz x l, smaller) small) (cases_lt x B.ptr_sz)
 
   module _ (f : ℕ → Ask ℕ) (h : (x : ℕ) → Small (f x)) where
     members_small : (ms : List Member) (a : ℕ) → a ≤ 15 → Small (align_members f a ms)
@@ -175,6 +177,6 @@ module _ (B : Rules) (small : B.ptr_sz ≤ 15) where
   pub tells_fits : (id : ℕ) (s : Remembered) → Tells B id s → s.height ≤ 512 → FitsWord s
   tells_fits id s t l = (
     subst Small (t s.height ∙ within_got s s.height (omega arith)) (align_small s.height id),
-    ⊎_elim (λ h. h) (λ h. let z : s.height ≤ 0 = omega arith in absurd (no_got 12 s.align (sym (no_calls id) ∙ t 0 ∙ within_got s 0 z))) (le_or_lt 1 s.height),
+    ⊎_elim (λ h. let z : s.height ≤ 0 = omega arith in absurd (no_got 12 s.align (sym (no_calls id) ∙ t 0 ∙ within_got s 0 z))) (λ h. h) (cases_lt s.height 1),
     omega arith,
   )

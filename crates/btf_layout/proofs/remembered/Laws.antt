@@ -5,7 +5,7 @@ use mathlib.Core.Path.{◌≡◌, ap, ◌∙◌, sym}
 use mathlib.Core.List.{List}
 use mathlib.Core.Logic.{⊎_elim}
 use borrow.Author.Tests.{lt-ltb, le-ltb, le-leb, lt-leb, ne_eqb}
-use Rattle.spec_bytes.proofs.words.Laws.{le_or_lt}
+use Rattle.std.proofs.lemmas.Bool.{cases_lt}
 use Rattle.std.specs.Prelude.{min, max, Option, Some, None, unwrap_or, Result, Ok, Err}
 use Rattle.spec_bytes.specs.declared.refusal.Refusal.{Refusal}
 use Rattle.spec_bytes.specs.declared.refusal.Refusal.TheVariants.{TooDeep}
@@ -75,27 +75,27 @@ module _ (s : Remembered) where
 word_none : (n : ℕ) → None ≡ some_word n → n ≡ 0
 word_none n e =
     ⊎_elim
-    (λ l. absurd (let q : 0 ≡ n = ap (λ (o : Option ℕ). unwrap_or o 0) (e ∙ sym (one_word n (λ z. omega arith))) in omega arith))
     (λ l. omega arith)
-    (le_or_lt 1 n)
+    (λ l. absurd (let q : 0 ≡ n = ap (λ (o : Option ℕ). unwrap_or o 0) (e ∙ sym (one_word n (λ z. omega arith))) in omega arith))
+    (cases_lt n 1)
 
 word_is : (n v : ℕ) → Some v ≡ some_word n → (n ≡ v) × (n ≡ 0 → ⊥)
 word_is n v e =
     ⊎_elim
-    (λ l. (sym (ap (λ (o : Option ℕ). unwrap_or o 0) (e ∙ sym (one_word n (λ z. omega arith)))), λ z. omega arith))
     (λ l. let z : n ≡ 0 = omega arith in
     let q = e ∙ sym (no_word n z) in
     absurd (let a : v ≡ 0 = ap (λ (o : Option ℕ). unwrap_or o 0) q in let b : v ≡ 1 = ap (λ (o : Option ℕ). unwrap_or o 1) q in omega arith))
-    (le_or_lt 1 n)
+    (λ l. (sym (ap (λ (o : Option ℕ). unwrap_or o 0) (e ∙ sym (one_word n (λ z. omega arith)))), λ z. omega arith))
+    (cases_lt n 1)
 
 -- ---- the library's least and largest
 pub min_smaller : (x y : ℕ) → min x y ≡ smaller x y
 unfolding smaller
-min_smaller x y = ⊎_elim (λ l. rw (le-leb x y l, smaller) (omega arith)) (λ l. rw (lt-leb x y l, smaller) (omega arith)) (le_or_lt x y)
+min_smaller x y = ⊎_elim (λ l. rw (lt-leb x y l, smaller) (omega arith)) (λ l. rw (le-leb x y l, smaller) (omega arith)) (cases_lt y x)
 
 pub max_larger : (x y : ℕ) → max x y ≡ larger x y
 unfolding larger
-max_larger x y = ⊎_elim (λ l. rw (le-leb x y l, larger) (omega arith)) (λ l. rw (lt-leb x y l, larger) (omega arith)) (le_or_lt x y)
+max_larger x y = ⊎_elim (λ l. rw (lt-leb x y l, larger) (omega arith)) (λ l. rw (le-leb x y l, larger) (omega arith)) (cases_lt y x)
 
 pub widest_is : (s t : Code) (a h : ℕ) → a ≡ max s.align t.align → h ≡ max s.height t.height → seen_is (record { align = a; height = h }) ≡ widest_code s t
 widest_is s t a h ea eh = λ i. record { align = (ea ∙ max_larger s.align t.align) i; height = (eh ∙ max_larger s.height t.height) i }

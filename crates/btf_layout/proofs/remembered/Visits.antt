@@ -9,7 +9,8 @@ use mathlib.Core.Logic.{⊎_elim}
 use lib.ListN.{length}
 use lib.Dec.{leb}
 use borrow.Author.Tests.{le-leb}
-use Rattle.spec_bytes.proofs.words.Laws.{le_or_lt, get_put_same}
+use Rattle.std.proofs.lemmas.Bool.{cases_lt}
+use Rattle.spec_bytes.proofs.words.Laws.{get_put_same}
 use Rattle.spec_c_dumper.specs.rules.Writer.{Ask, got, ask_then}
 use Rattle.spec_c_dumper.specs.rules.Types.{Member, member_types, BtfType, Void, Int, Ptr, Array, Composite, Enum, Enum64, Fwd, Typedef, Mod, Func, Var, Datasec, FuncProto, Float, DeclTag, TypeTag, Btf as Rules, node_of}
 use Rattle.spec_c_dumper.specs.rules.Layout.{smaller, align_of, get_align_of}
@@ -109,7 +110,7 @@ module _ (types : ℕ) (B : Rules) (small : B.ptr_sz ≤ 15) (below : (x y : ℕ
     type_holds (TypeTag a i x) b m k r g = c x m k (b x (Memᴰ.head refl)) r g
 
   taken_holds : (left : ℕ) (s : Remembered) (m : List ℕ) (k : ℕ) → Counted m → Holds (taken left s m k)
-  taken_holds left s m k g = ⊎_elim (λ l. subst Holds (sym (taken_found left s m k l)) g) (λ l. subst Holds (sym (taken_refused left s m k l)) g) (le_or_lt s.height left)
+  taken_holds left s m k g = ⊎_elim (λ l. subst Holds (sym (taken_refused left s m k l)) g) (λ l. subst Holds (sym (taken_found left s m k l)) g) (cases_lt left s.height)
 
   keep_holds : (left id : ℕ) → left < 512 → (m : List ℕ) → id < types → K.recall m id ≡ unknown → (r : Once (List ℕ) Remembered) → Told K B (λ i. align_of B (get_align_of i B) (B.type_by_id id)) left m r → Holds r → Holds (once_then r (keep_once K id))
   unfolding once_then keep_once

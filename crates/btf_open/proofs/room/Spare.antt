@@ -7,8 +7,8 @@ use mathlib.Core.Logic.{⊎_elim, ◌≢◌}
 use native.Mathlib.Omega.{arith}
 use lib.ListN.{length, replicate}
 use borrow.Author.Tests.{eq-eqb}
+use Rattle.std.proofs.lemmas.Bool.{cases_lt}
 use Rattle.spec_bytes.specs.words.Words.{get_word}
-use Rattle.spec_bytes.proofs.words.Laws.{le_or_lt}
 use Rattle.spec_type_table.specs.declared.types.TypeTable.{TypeTable}
 use Rattle.spec_type_table.specs.Cells.{place_of}
 use Rattle.spec_type_table.proofs.Laws.{place_type, place_enum}
@@ -36,9 +36,9 @@ all_zero_lem at w (suc n) z =
 other_place : (t f g h : ℕ) → f < 16 → g < 8 → f ≢ 0 → f ≢ 9 → f ≢ 10 → f ≢ 12 → g ≢ 0 → Other t (place_of t f g h)
 other_place t f g h a c n0 n9 n10 n12 m =
     ⊎_elim
-    (λ l. rw (← place_enum t f g h l) (other_value t (h - t) g c m))
     (λ l. rw (← place_type t f g h l) (other_field t h f l a n0 n9 n10 n12))
-    (le_or_lt t h)
+    (λ l. rw (← place_enum t f g h l) (other_value t (h - t) g c m))
+    (cases_lt h t)
 
 module _ (p modes : ℕ) (s : List ℕ) (n : ℕ) (ok : opening_number p s n ≡ 0) where
   abbrev b : TypeTable

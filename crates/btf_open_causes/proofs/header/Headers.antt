@@ -12,25 +12,15 @@ use Rattle.std.specs.List.{starts_with, ends_with}
 use Rattle.std.specs.Bool.{MatchBool}
 use Rattle.std.specs.Str.{IsAscii, IsNotAscii}
 use Rattle.std.specs.Cmp.Lexicographic.{pointwise}
+use Rattle.std.specs.Cmp.{first_so, second_so}
 use borrow.Author.Tests.{lt-ltb, le-ltb, le-leb, lt-leb, leb-true}
+use Rattle.std.proofs.lemmas.Bool.{cases_lt}
 use Rattle.spec_bytes.specs.words.Words.{word_in}
-use Rattle.spec_bytes.proofs.words.Laws.{le_or_lt}
 use Rattle.spec_linux_btf.specs.Reading.{word}
 use Rattle.spec_linux_btf.specs.Section.{is_big_endian, little_endian, word_of, hdr_len_of, type_off_of, type_len_of, str_off_of, str_len_of, string_area, header_sound, strings_sound, all_ascii, last_of}
 use Rattle.spec_linux_btf.proofs.SectionFields.{in_word}
 use Rattle.btf_open_causes.specs.declared.header.Header.{Header}
 use Rattle.btf_open_causes.specs.header.Header.{header_of, btf_of, is_magic, bad_strings}
-
-pub and_left : (a b : Bool) → (a && b) ≡ true → a ≡ true
-and_left true b h = refl
-and_left false b h = h
-
-pub and_right : (a b : Bool) → (a && b) ≡ true → b ≡ true
-and_right true b h = h
-and_right false b h = absurd (true≢false (sym h))
-
-pub and_both : (a b : Bool) → a ≡ true → b ≡ true → (a && b) ≡ true
-and_both a b e f = rw (e, f)
 
 pub word_in_lem : (s : List ℕ) (at : ℕ) → at + 3 < length s → word_of s at ≡ word (is_big_endian s) s at
 unfolding word_of
@@ -108,7 +98,7 @@ module _ (s : List ℕ) where
 
   pub magic_long : is_magic s ≡ true → 24 ≤ length s
   unfolding is_magic
-  magic_long h = leb-true 24 (length s) (and_left (leb 24 (length s)) _ h)
+  magic_long h = leb-true 24 (length s) (first_so (leb 24 (length s)) _ h)
 
 -- ---- has_bad_header
 abbrev areas : List ℕ → Bool
@@ -172,7 +162,7 @@ module _ (s : List ℕ) where
           rw (sound_parts, g, a, b, d, z) (flip (hdr_len_of s + str_off_of s + str_len_of s) (length s))
         where
           flip : (x y : ℕ) → ltb y x ≡ not (leb x y)
-          flip x y = ⊎_elim (λ u. le-ltb y x u ∙ ap not (sym (le-leb x y u))) (λ u. lt-ltb y x u ∙ ap not (sym (lt-leb x y u))) (le_or_lt x y)
+          flip x y = ⊎_elim (λ u. lt-ltb y x u ∙ ap not (sym (lt-leb x y u))) (λ u. le-ltb y x u ∙ ap not (sym (le-leb x y u))) (cases_lt y x)
 
 -- ---- is_sound_area
 no_larger : (l : List ℕ) → IsAscii l → true ≡ all_ascii l
@@ -221,10 +211,10 @@ module _ (a : List ℕ) where
 
   module _ (e : starts_with eqb a (0 ∷ []) ≡ true) where
     in_front : leb 1 (length a) ≡ true
-    in_front = and_left (leb 1 (length a)) (eqb (get_or a 0 1) 0) (sym (begins_zero a) ∙ e)
+    in_front = first_so (leb 1 (length a)) (eqb (get_or a 0 1) 0) (sym (begins_zero a) ∙ e)
 
     zero_first : eqb (get_or a 0 1) 0 ≡ true
-    zero_first = and_right (leb 1 (length a)) (eqb (get_or a 0 1) 0) (sym (begins_zero a) ∙ e)
+    zero_first = second_so (leb 1 (length a)) (eqb (get_or a 0 1) 0) (sym (begins_zero a) ∙ e)
 
     pub area_last : ends_with eqb a (0 ∷ []) ≡ false → false ≡ strings_sound a
     unfolding strings_sound
@@ -267,10 +257,10 @@ pub strings_decided : (s : List ℕ) → header_sound s ≡ true → bad_strings
 unfolding bad_strings string_area
 strings_decided s h =
     let g : (is_magic s && areas s) ≡ true = sym (sound_parts s) ∙ h in
-    let l : 24 ≤ length s = magic_long s (and_left (is_magic s) _ g) in
-    let a1 = and_right (leb 24 (hdr_len_of s)) _ (and_right (is_magic s) _ g) in
-    let a2 = and_right (leb (hdr_len_of s) (length s)) _ a1 in
-    let a3 = and_right (leb (hdr_len_of s + type_off_of s + type_len_of s) (length s)) _ a2 in
+    let l : 24 ≤ length s = magic_long s (first_so (is_magic s) _ g) in
+    let a1 = second_so (leb 24 (hdr_len_of s)) _ (second_so (is_magic s) _ g) in
+    let a2 = second_so (leb (hdr_len_of s) (length s)) _ a1 in
+    let a3 = second_so (leb (hdr_len_of s + type_off_of s + type_len_of s) (length s)) _ a2 in
     let w4 : word_of s 4 ≡ hdr_len_of s = read4 s l in
     let w16 : word_of s 16 ≡ str_off_of s = read16 s l in
     let w20 : word_of s 20 ≡ str_len_of s = read20 s l in

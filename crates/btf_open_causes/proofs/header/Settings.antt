@@ -1,15 +1,24 @@
 -- What a table's types need of its header and settings: a law for each return of btf_of and what it calls. Assumes nothing.
-use Prim.Native.Nat.{ℕ, ◌/◌, ◌%◌, ◌+◌}
+use Prim.Native.Nat.{ℕ, ◌/◌, ◌%◌, ◌+◌, ◌<◌}
 use mathlib.Core.Path.{◌≡◌, ◌∙◌, ap}
 use mathlib.Core.Bool.{Bool}
 use mathlib.Core.List.{List}
+use native.Mathlib.Omega.{arith}
 use Rattle.std.proofs.Math.Nat.{div-one}
 use lib.Dec.{ltb, eqb}
 use Rattle.spec_linux_btf.specs.Section.{is_big_endian}
 use Rattle.spec_bytes.specs.words.Words.{pick}
 use Rattle.spec_type_table.specs.declared.types.TypeTable.{TypeTable}
 use Rattle.btf_open_causes.specs.declared.header.Header.{Header}
-use Rattle.btf_open_causes.specs.header.Header.{header_of, strings_at, btf_of}
+use Rattle.btf_open_causes.specs.declared.header.Mode.{Mode}
+use Rattle.btf_open_causes.specs.declared.header.Mode.TheVariants.{UnionAsStruct, StrongArrays, Placing, NamesApart}
+use Rattle.btf_open_causes.specs.header.Header.{header_of, mode_bit, strings_at, btf_of}
+
+pub some_bit : (m : Mode) → 0 < mode_bit m
+some_bit UnionAsStruct = omega arith
+some_bit StrongArrays = omega arith
+some_bit Placing = omega arith
+some_bit NamesApart = omega arith
 
 abbrev from_header : Header → ℕ
 from_header h = pick (ltb (h.hdr_len + h.str_off) 4294967296) (h.hdr_len + h.str_off) 4294967295

@@ -4,7 +4,7 @@ use mathlib.Core.Path.{◌≡◌, refl, ap, ◌∙◌, sym, subst}
 use mathlib.Core.Bool.{true}
 use mathlib.Core.Logic.{⊎_elim, ◌↔◌}
 use native.Mathlib.Omega.{arith}
-use Rattle.spec_bytes.proofs.words.Laws.{le_or_lt}
+use Rattle.std.proofs.lemmas.Bool.{cases_lt}
 use Rattle.btf_open_causes.specs.loops.Graph.{Graph, Edge, Loop, long, has_loop}
 use Rattle.btf_open_causes.specs.loops.Walk.{Safe, safe}
 use Rattle.btf_open_causes.proofs.references.Twice.{twice}
@@ -22,7 +22,7 @@ cut G f i j l e edges = record {
 
 -- on a loop each node has a successor on the loop
 pub on : {G : Graph} (l : Loop G) (i : ℕ) → i < l.n → (j : ℕ) × (j < l.n) × Edge G (l.x i) (l.x j)
-on {G} l i h = ⊎_elim (λ p. (suc i, p, l.edges i h)) last (le_or_lt (suc (suc i)) l.n)
+on {G} l i h = ⊎_elim last (λ p. (suc i, p, l.edges i h)) (cases_lt l.n (suc (suc i)))
   where
     last : l.n < suc (suc i) → (j : ℕ) × (j < l.n) × Edge G (l.x i) (l.x j)
     last p = let e : suc i ≡ l.n = omega arith in (0, l.some, subst (Edge G (l.x i)) (ap l.x e ∙ l.round) (l.edges i h))
@@ -40,7 +40,7 @@ pub all_safe : {G : Graph} → ((x : ℕ) → x < G.size → Safe G x) → Loop 
 all_safe {G} s l = safe_off l (at (l.x 0)) 0 l.some refl
   where
     at : (x : ℕ) → Safe G x
-    at x = ⊎_elim (λ h. safe (λ k p. absurd (none k (subst (λ (a : ℕ). k < a) (G.out x h) p)))) (s x) (le_or_lt G.size x)
+    at x = ⊎_elim (s x) (λ h. safe (λ k p. absurd (none k (subst (λ (a : ℕ). k < a) (G.out x h) p)))) (cases_lt x G.size)
       where
         none : (k : ℕ) → k < 0 → ⊥
         none k p = omega arith
@@ -54,7 +54,7 @@ module _ (G : Graph) where
       any_yes (G.deg (l.x i)) (λ j. long G k (G.to (l.x i) j)) q.2.0 q.2.1 (ap (long G k) q.2.2 ∙ loop_long l k q.0 q.1)
 
   inside : (x k : ℕ) → k < G.deg x → x < G.size
-  inside x k h = ⊎_elim (λ p. absurd (none (G.out x p))) (λ p. p) (le_or_lt G.size x)
+  inside x k h = ⊎_elim (λ p. p) (λ p. absurd (none (G.out x p))) (cases_lt x G.size)
     where
       none : G.deg x ≡ 0 → ⊥
       none e = omega arith

@@ -7,8 +7,8 @@ use mathlib.Core.Logic.{⊎_elim, ◌⊎◌, ◌↔◌}
 use native.Mathlib.Omega.{arith}
 use lib.Dec.{eqb}
 use borrow.Author.Tests.{eqb-true}
+use Rattle.std.proofs.lemmas.Bool.{cases_lt}
 use Rattle.spec_bytes.specs.words.Words.{pick}
-use Rattle.spec_bytes.proofs.words.Laws.{le_or_lt}
 use Rattle.spec_type_table.specs.declared.types.TypeTable.{TypeTable}
 use Rattle.spec_type_table.specs.Records.{section_word, vlen_of}
 use Rattle.btf_open_causes.specs.references.Followed.{is_kind_among, composites, targets, entry_at, place_of, kind_at, count_for, count_at, id_at, followed_count, followed_id}
@@ -60,7 +60,7 @@ module _ (b : TypeTable) (s start : List ℕ) where
     x = l.x;
     some = l.some;
     round = l.round;
-    kinds = λ i h. ⊎_elim (node i) (λ p. let e : l.n ≡ i = omega arith in subst (λ (y : ℕ). is_kind_among passing (kind_at b start y) ≡ true) (sym l.round ∙ ap l.x e) (node 0 l.some)) (le_or_lt (suc i) l.n);
+    kinds = λ i h. ⊎_elim (λ p. let e : l.n ≡ i = omega arith in subst (λ (y : ℕ). is_kind_among passing (kind_at b start y) ≡ true) (sym l.round ∙ ap l.x e) (node 0 l.some)) (node i) (cases_lt l.n (suc i));
     follows = λ i h. let q = l.edges i h in (q.0, subst (λ (a : ℕ). q.0 < a) (deg_passing (l.x i) (node i h)) q.1, q.2);
   }
     where

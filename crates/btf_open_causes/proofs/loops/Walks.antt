@@ -5,12 +5,11 @@ use mathlib.Core.Bool.{Bool, true, false, true≢false, not}
 use mathlib.Core.List.{List}
 use mathlib.Core.Logic.{⊎_elim, ◌≢◌}
 use native.Mathlib.Omega.{arith}
-use native.Mathlib.Decide.{ℕ_discrete}
 use lib.ListN.{length, get_or, set, length-set, get_or-eq_default}
 use lib.Seq.{get_or-set_same, get_or-set_other}
 use lib.Dec.{ltb, eqb}
 use borrow.Author.Tests.{lt-ltb, le-ltb, eqb-true}
-use Rattle.spec_bytes.proofs.words.Laws.{le_or_lt}
+use Rattle.std.proofs.lemmas.Bool.{cases_lt}
 use Rattle.std.proofs.lemmas.List.Sums.{sum_by-set}
 use Rattle.btf_open_causes.specs.references.Zeros.{zeros}
 use Rattle.btf_open_causes.proofs.references.Zeros.{zeros_same, zeros_less, zeros_max, each_set, nothing, length_replicate, get_d_zeros}
@@ -31,7 +30,7 @@ unfolding room
 room_le l i h = omega (arith, sum_by-set (λ v. 131072 - v) l i 131072 0 h)
 
 pub inside : (l : List ℕ) (i : ℕ) → 0 < get_or l i 0 → i < length l
-inside l i h = ⊎_elim (λ p. absurd (none (get_or-eq_default l 0 p))) (λ p. p) (le_or_lt (length l) i)
+inside l i h = ⊎_elim (λ p. p) (λ p. absurd (none (get_or-eq_default l 0 p))) (cases_lt i (length l))
   where
     none : get_or l i 0 ≡ 0 → ⊥
     none e = omega arith
@@ -102,7 +101,7 @@ module _ (G : Graph) (st stack : List ℕ) (d : ℕ) (inv : Inv G st stack d) (p
           low j p r = omega arith
 
       here : Safe G (top stack d)
-      here = ⊎_elim (inv.fine (top stack d)).done (λ b. safe (λ k q. ⊎_elim (λ p. (inv.fine (top stack d)).passed b k p) (λ p. h k (omega arith) (omega arith)) (le_or_lt (suc (suc k)) (get_or st (top stack d) 0)))) (le_or_lt 131072 (get_or st (top stack d) 0))
+      here = ⊎_elim (λ b. safe (λ k q. ⊎_elim (λ p. h k (omega arith) (omega arith)) (λ p. (inv.fine (top stack d)).passed b k p) (cases_lt (get_or st (top stack d) 0) (suc (suc k))))) (inv.fine (top stack d)).done (cases_lt (get_or st (top stack d) 0) 131072)
 
   module _ (g : ℕ) (e : g ≡ G.deg (top stack d)) (h : get_or st (top stack d) 0 ≤ g) (y : ℕ) (to : y ≡ G.to (top stack d) (get_or st (top stack d) 0 - 1)) where
     edge : Edge G (top stack d) y
@@ -139,7 +138,7 @@ module _ (G : Graph) (st stack : List ℕ) (d : ℕ) (inv : Inv G st stack d) (p
         up = rises st y 1 in_st (omega arith)
 
         begun : (j : ℕ) → j < d + 1 → 0 < get_or (set st y 1) (get_or (set stack d y) j 0) 0
-        begun j p = ⊎_elim old new (le_or_lt (suc j) d)
+        begun j p = ⊎_elim new old (cases_lt d (suc j))
           where
             old : suc j ≤ d → 0 < get_or (set st y 1) (get_or (set stack d y) j 0) 0
             old q = rw (same j q) (up (get_or stack j 0) (inv.begun j q))
@@ -156,7 +155,7 @@ module _ (G : Graph) (st stack : List ℕ) (d : ℕ) (inv : Inv G st stack d) (p
             low j l = omega arith
 
         way : (j : ℕ) → suc j < d + 1 → Edge G (get_or (set stack d y) j 0) (get_or (set stack d y) (suc j) 0)
-        way j p = ⊎_elim old new (le_or_lt (suc (suc j)) d)
+        way j p = ⊎_elim new old (cases_lt d (suc (suc j)))
           where
             old : suc (suc j) ≤ d → Edge G (get_or (set stack d y) j 0) (get_or (set stack d y) (suc j) 0)
             old q = rw (same j (omega arith), same (suc j) q) (inv.way j q)
@@ -175,7 +174,7 @@ module _ (G : Graph) (st stack : List ℕ) (d : ℕ) (inv : Inv G st stack d) (p
         loop q = cut G (closing stack d y) q.0 d q.1 (closing_in stack d y q.0 q.1 ∙ q.2 ∙ sym (closing_end stack d y d (omega arith))) edges
           where
             edges : (k : ℕ) → q.0 ≤ k → k < d → Edge G (closing stack d y k) (closing stack d y (suc k))
-            edges k p r = rw (closing_in stack d y k r) (⊎_elim old new (le_or_lt (suc (suc k)) d))
+            edges k p r = rw (closing_in stack d y k r) (⊎_elim new old (cases_lt d (suc (suc k))))
               where
                 old : suc (suc k) ≤ d → Edge G (get_or stack k 0) (closing stack d y (suc k))
                 old s = rw (closing_in stack d y (suc k) s) (inv.way k s)
@@ -223,7 +222,7 @@ module _ (G : Graph) (st stack : List ℕ) (d : ℕ) (inv : Inv G st stack d) (p
 
   fine_at : Fine G (top stack d) (k + 1)
   fine_at = record {
-    passed = λ b j q. ⊎_elim (λ p. (inv.fine (top stack d)).passed (omega arith) j p) (λ p. w j (omega arith) (omega arith)) (le_or_lt (suc (suc j)) (get_or st (top stack d) 0));
+    passed = λ b j q. ⊎_elim (λ p. w j (omega arith) (omega arith)) (λ p. (inv.fine (top stack d)).passed (omega arith) j p) (cases_lt (get_or st (top stack d) 0) (suc (suc j)));
     done = λ b. absurd (omega (arith, G.few (top stack d)));
   }
 
@@ -281,15 +280,6 @@ module _ (G : Graph) (st stack : List ℕ) (inv : Inv G st stack 0) (x : ℕ) wh
       one : 0 < get_or (set st x 1) x 0
       one = rw (get_or-set_same st x 1 0 in_st) (omega arith)
 
-  pub rest : 0 < get_or st x 0 → Walked G x st stack false
-  rest h = record { stop = λ e. absurd (true≢false (sym e)); go = λ e. (inv, ⊎_elim (inv.fine x).done (λ p. absurd (none (inv.held x h p).0 (inv.held x h p).1)) (le_or_lt 131072 (get_or st x 0))) }
-    where
-      none : (j : ℕ) → j < 0 → ⊥
-      none j p = omega arith
-
-  pub rest_at : (get_or st x 0 ≡ 0 → ⊥) → Walked G x st stack false
-  rest_at n = rest (omega arith)
-
   -- a node with no successors is done at once
   pub no_way : x < 262145 → get_or st x 0 ≡ 0 → (n : ℕ) → n ≡ G.deg x → n ≡ 0 → Walked G x (set st x 131072) stack false
   no_way b w n e z = record {
@@ -314,15 +304,9 @@ module _ (G : Graph) (st stack : List ℕ) (inv : Inv G st stack 0) (x : ℕ) wh
       in_st : x < length st
       in_st = omega (arith, inv.st_length)
 
-pub walk_end : (G : Graph) (x : ℕ) (st stack : List ℕ) (d : ℕ) → Inv G st stack d → d ≤ 0 → 0 < get_or st x 0 → Walked G x st stack false
-walk_end G x st stack d inv l h = let e : d ≡ 0 = omega arith in rest G st stack (subst (Inv G st stack) e inv) x h
-
 -- the walks, one after another
 pub scan_yes : (G : Graph) (x : ℕ) (st' stack' : List ℕ) (r : Bool) → Walked G x st' stack' r → r ≡ true → true ≡ has_loop G
 scan_yes G x st' stack' r w e = sym (has_loop_yes G (w.stop e))
-
-pub scan_more : (G : Graph) (i : ℕ) → ((v : ℕ) → v < i → Safe G v) → Safe G i → (v : ℕ) → v < i + 1 → Safe G v
-scan_more G i h s v l = elim (ℕ_discrete v i) [ yes e ↦ subst (Safe G) (sym e) s | no n ↦ h v (omega arith) ]
 
 pub scan_no : (G : Graph) → ((v : ℕ) → v < G.size → Safe G v) → false ≡ has_loop G
 scan_no G h = go (has_loop G) refl

@@ -7,10 +7,10 @@ use mathlib.Core.Logic.{⊎_elim}
 use native.Mathlib.Omega.{arith}
 use native.Mathlib.Numerals.{add-one}
 use lib.ListN.{length, get_or, set, length-set, replicate, length-replicate}
+use Rattle.std.proofs.lemmas.Bool.{cases_lt}
 use Rattle.std.proofs.lemmas.List.Sums.{sum_by-set}
 use Rattle.btf_open_causes.specs.declared.prototypes.Cell.{Cell}
 use Rattle.btf_open_causes.specs.declared.prototypes.Cell.TheVariants.{Unknown, No, Yes, Passed}
-use Rattle.spec_bytes.proofs.words.Laws.{le_or_lt}
 use Rattle.btf_open_causes.specs.prototypes.Track.{Track, Leads, here, on}
 use Rattle.btf_open_causes.specs.prototypes.Cells.{iter, Says, Fair, Fairs, Rest, Looked, is_unknown, unknowns, Run, Settle, Answer}
 use Rattle.btf_open_causes.proofs.references.Zeros.{sum_max, each_at}
@@ -42,7 +42,7 @@ module _ (T : Track) where
   neither (on e r) a b = a e
 
   in_size : (x : ℕ) → (T.what x ≡ 0 → ⊥) → x < 262145
-  in_size x n = ⊎_elim (λ p. absurd (n (T.out x p))) (λ p. omega (arith, T.fits)) (le_or_lt T.size x)
+  in_size x n = ⊎_elim (λ p. omega (arith, T.fits)) (λ p. absurd (n (T.out x p))) (cases_lt x T.size)
 
   further : {x : ℕ} → Leads T x → T.what x ≡ 1 → Leads T (T.next x)
   further (here e) a = absurd (omega arith)
@@ -85,7 +85,7 @@ module _ (T : Track) where
         };
         deep = omega (arith, run_less, r.deep);
         at = e ∙ ap T.next r.at;
-        pass = λ i h. ⊎_elim (r.pass i) (λ q. let f : i ≡ m = omega arith in rw (f, ← r.at) l.2) (le_or_lt (suc i) m);
+        pass = λ i h. ⊎_elim (λ q. let f : i ≡ m = omega arith in rw (f, ← r.at) l.2) (r.pass i) (cases_lt m (suc i));
         marked = each_at Unknown (λ v w. w ≡ Passed → (j : ℕ) × (j < suc m) × (iter T j y ≡ v)) cell z Passed in_cell
             (λ v n q. let o = r.marked v q in (o.0, low o.0 o.1, o.2)) (λ q. (m, omega arith, sym r.at));
       }
@@ -114,7 +114,7 @@ module _ (T : Track) where
       where
         two : {n : ℕ} → n ≡ 1 → n ≡ 2 → ⊥
         two p q = omega arith
-    round j a b (on e l) i h q = ⊎_elim (λ p. round j a b l (suc i) p (ap T.next q)) (λ p. let f : m ≡ suc i = omega arith in round j a b l j a (b ∙ ap (λ (n : ℕ). iter T n y) f ∙ ap T.next q)) (le_or_lt (suc (suc i)) m)
+    round j a b (on e l) i h q = ⊎_elim (λ p. let f : m ≡ suc i = omega arith in round j a b l j a (b ∙ ap (λ (n : ℕ). iter T n y) f ∙ ap T.next q)) (λ p. round j a b l (suc i) p (ap T.next q)) (cases_lt m (suc (suc i)))
 
     inside : (j : ℕ) → j < m → iter T j y < 262145
     inside j h = in_size (iter T j y) (λ e. two (r.pass j h) e)
@@ -182,12 +182,6 @@ module _ (T : Track) where
 
         low : (j : ℕ) → i ≤ j → (j ≡ i → ⊥) → suc i ≤ j
         low j a n = omega arith
-
-    pub settle_end : m ≤ i → Rest T cell
-    settle_end h = record { fairs = t.fairs; unmarked = λ v e. let o = t.marked v e in none o.0 o.1 o.2 }
-      where
-        none : (j : ℕ) → i ≤ j → j < m → ⊥
-        none j a b = omega arith
 
 unknown_at : (n v : ℕ) → get_or (replicate n Unknown) v Unknown ≡ Unknown
 unknown_at zero v = refl

@@ -6,7 +6,7 @@ use mathlib.Core.Logic.{⊎_elim, ◌↔◌}
 use native.Mathlib.Omega.{arith}
 use lib.Dec.{eqb}
 use borrow.Author.Tests.{eqb-true}
-use Rattle.spec_bytes.proofs.words.Laws.{le_or_lt}
+use Rattle.std.proofs.lemmas.Bool.{cases_lt}
 use Rattle.btf_open_causes.specs.prototypes.Track.{Track, Leads, here, on, chase, leads_to}
 use Rattle.btf_open_causes.specs.prototypes.Cells.{iter}
 use Rattle.btf_open_causes.proofs.references.Twice.{Twice, twice}
@@ -60,14 +60,14 @@ module _ (T : Track) where
       go (link {j = j} e r p) = let q : j ≡ k - suc i = omega arith in subst (Links (T.next (iter T i x))) q r
 
   in_size : {x k : ℕ} → Links x k → x < T.size
-  in_size {x} l = ⊎_elim (λ p. absurd (none l (T.out x p))) (λ p. p) (le_or_lt T.size x)
+  in_size {x} l = ⊎_elim (λ p. p) (λ p. absurd (none l (T.out x p))) (cases_lt x T.size)
     where
       none : {k : ℕ} → Links x k → T.what x ≡ 0 → ⊥
       none (arrived e p) z = omega arith
       none (link e r p) z = omega arith
 
   short : {x k : ℕ} → Links x k → k < T.size
-  short {x} {k} l = ⊎_elim long (λ p. p) (le_or_lt T.size k)
+  short {x} {k} l = ⊎_elim (λ p. p) long (cases_lt k T.size)
     where
       long : T.size ≤ k → k < T.size
       long h = clash (twice T.size (λ i. iter T i x) (λ i p. in_size (along l i (omega arith))))

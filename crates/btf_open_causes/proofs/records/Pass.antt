@@ -5,7 +5,8 @@ use mathlib.Core.Bool.{Bool, true, false, true≢false, ◌&&◌}
 use mathlib.Core.List.{List, [], ◌∷◌}
 use Rattle.std.specs.Prelude.{Option, Some, None}
 use Rattle.std.specs.List.{list_all, range_with_len}
-use Rattle.std.proofs.lemmas.Bool.{and_left as no_left, and_right as no_right}
+use Rattle.std.proofs.lemmas.Bool.{and_left as no_left, and_right as no_right, cases_lt}
+use Rattle.std.specs.Cmp.{first_so, second_so}
 use mathlib.Core.Logic.{⊎_elim, ◌⊎◌, inl, inr}
 use native.Mathlib.Omega.{arith}
 use native.Mathlib.Decide.{ℕ_discrete}
@@ -14,7 +15,6 @@ use lib.ListN.{set, get_or-eq_default}
 use lib.Dec.{ltb, leb, eqb}
 use borrow.Author.Tests.{lt-ltb, le-ltb, le-leb, lt-leb, ne_eqb, leb-true}
 use Rattle.spec_bytes.specs.words.Words.{pick}
-use Rattle.spec_bytes.proofs.words.Laws.{le_or_lt}
 use Rattle.spec_type_table.specs.declared.types.TypeTable.{TypeTable}
 use Rattle.spec_type_table.specs.Records.{section_word, vlen_of, kind_of, extra_of}
 use Rattle.spec_linux_btf.specs.Reading.{Kind, none, INT, PTR, ARRAY, STRUCT, UNION, ENUM, FWD, TYPEDEF, VOLATILE, CONST, RESTRICT, FUNC, FUNC-PROTO, VAR, DATASEC, FLOAT, DECL-TAG, TYPE-TAG, ENUM64, kind, Shape, bad, fixed, each, shape, known, extra, extra_of as length_of}
@@ -23,7 +23,6 @@ use Rattle.spec_linux_btf.specs.Places.{kind_p, vlen_p, size_p, all_named_p, ent
 use Rattle.btf_open_causes.specs.declared.header.Header.{Header}
 use Rattle.btf_open_causes.specs.header.Header.{header_of}
 use Rattle.btf_open_causes.specs.records.Pass.{entry_width, named_by, enums_of, next_p, count_p, enums_p, index_p, Scan, unsound, found, scan_out, scan_p, scan_section}
-use Rattle.btf_open_causes.proofs.header.Headers.{and_left, and_right}
 
 -- ---- a function of a kind's number, by listing
 abbrev pub Steady : {A : Type 0} → (ℕ → A) → A → ℕ → ℕ → Type 0
@@ -61,12 +60,12 @@ module _ (k : ℕ) where
   unfolding entry_width kind
   width_high h m n =
       ⊎_elim
-      (λ l. ⊎_elim
-      (λ a. rw (kind_past k a))
-      (λ a. sym (steady (λ (j : ℕ). entry_width (kind j)) None 14 5 k (refl, (refl, (refl, (refl, (refl, tt))))) l (less a)))
-      (le_or_lt 20 k))
       (λ l. sym (steady (λ (j : ℕ). entry_width (kind j)) None 7 6 k (refl, (refl, (refl, (refl, (refl, (refl, tt)))))) above (below l)))
-      (le_or_lt 14 k)
+      (λ l. ⊎_elim
+      (λ a. sym (steady (λ (j : ℕ). entry_width (kind j)) None 14 5 k (refl, (refl, (refl, (refl, (refl, tt))))) l (less a)))
+      (λ a. rw (kind_past k a))
+      (cases_lt k 20))
+      (cases_lt k 14)
     where
       not6 : k ≡ 6 → ⊥
       not6 e = m (inl e)
@@ -262,10 +261,10 @@ module _ (w : ℕ → ℕ) (sl end p : ℕ) where
   pub ends_in : sound_p w end p ≡ true → p + size_p w p ≤ end
   unfolding sound_p
   ends_in h =
-      let h1 = and_right (leb (p + 12) end) _ h in
-      let h2 = and_right (known (shape (kind (kind_p w p)))) _ h1 in
-      let h3 = and_right (eqb (w (p + 4) / 65536 % 256) 0) _ h2 in
-      let h4 = and_right (eqb (w (p + 4) / 536870912 % 4) 0) _ h3 in
+      let h1 = second_so (leb (p + 12) end) _ h in
+      let h2 = second_so (known (shape (kind (kind_p w p)))) _ h1 in
+      let h3 = second_so (eqb (w (p + 4) / 65536 % 256) 0) _ h2 in
+      let h4 = second_so (eqb (w (p + 4) / 536870912 % 4) 0) _ h3 in
       leb-true (p + size_p w p) end h4
 
   pub next_sound : (next : ℕ) → Some next ≡ next_p w sl end p → Sound × (next ≡ p + size_p w p)
@@ -274,9 +273,9 @@ module _ (w : ℕ → ℕ) (sl end p : ℕ) where
     where
       go : (t : Bool) → (sound_p w end p && named_p sl w p) ≡ t → Sound × (next ≡ p + size_p w p)
       go true f =
-          let s : sound_p w end p ≡ true = and_left (sound_p w end p) _ f in
+          let s : sound_p w end p ≡ true = first_so (sound_p w end p) _ f in
           let q : Some next ≡ Some (p + size_p w p) = e ∙ rw (f, next_p) in
-          (record { is_sound_lem = s; is_named = and_right (sound_p w end p) _ f; ends = ends_in s }, cc)
+          (record { is_sound_lem = s; is_named = second_so (sound_p w end p) _ f; ends = ends_in s }, cc)
       go false f = let q : Some next ≡ None = e ∙ rw (f, next_p) in absurd cc
 
   pub next_refused : None ≡ next_p w sl end p → (sound_p w end p && named_p sl w p) ≡ false
@@ -286,10 +285,6 @@ module _ (w : ℕ → ℕ) (sl end p : ℕ) where
       go : (t : Bool) → (sound_p w end p && named_p sl w p) ≡ t → t ≡ false
       go true f = let q : None ≡ Some (p + size_p w p) = e ∙ rw (f, next_p) in absurd cc
       go false f = refl
-
-  -- the pass goes on, and stays inside
-  pub next_rises : (next : ℕ) → Some next ≡ next_p w sl end p → (p < next) × (next ≤ end)
-  next_rises next e = let q = next_sound next e in (omega (arith, size_least w p), omega (arith, q.0.ends))
 
 -- the steps of what is counted, in the area and past it
 module _ (w : ℕ → ℕ) (sl end p n : ℕ) where
@@ -434,6 +429,33 @@ module _ (w : ℕ → ℕ) (sl from end : ℕ) (start₀ : List ℕ) where
         let k : x - 1 ≡ count_p w 262144 end from = omega arith in
         let i : start ≡ index_p w from start₀ (count_p w 262144 end from) = g.index ∙ ap (index_p w from start₀) k in
         rw (b, scan_p) (λ j. found (sym n j) (sym m j) (i j))
+
+-- what is known at the turn of record x: that the pass has come there, and past the last turn that there are too many
+pub record Turning (w : ℕ → ℕ) (sl from end : ℕ) (start₀ : List ℕ) (at x e : ℕ) (start : List ℕ) : Type 0 where
+  pub come : x ≤ 262145 → Passing w sl from end start₀ at x e start
+  pub many : 262145 < x → unsound ≡ scan_p w sl from end start₀
+
+module _ (w : ℕ → ℕ) (sl from end : ℕ) (start₀ : List ℕ) where
+  pub turning_none : from ≤ end → Turning w sl from end start₀ from 1 0 start₀
+  turning_none h = record { come = λ _. passing_none w sl from end start₀ h; many = λ f. absurd (omega arith) }
+
+  module _ (at x e : ℕ) (start : List ℕ) (t : Turning w sl from end start₀ at x e start) (m : x ≤ 262145) where
+    pub turn_end : end ≤ at → found x e start ≡ scan_p w sl from end start₀
+    turn_end h = scan_end w sl from end start₀ at x e start (t.come m) h
+
+    module _ (l : at < end) where
+      pub turn_bad : None ≡ next_p w sl end at → unsound ≡ scan_p w sl from end start₀
+      turn_bad h = elim (ℕ_discrete x 262145) [
+        | yes f ↦ scan_many w sl from end start₀ at x e start (t.come m) l (omega arith)
+        | no f ↦ scan_bad w sl from end start₀ at x e start (t.come m) l (omega arith) h
+      ]
+
+      pub turning_more : (next : ℕ) → Some next ≡ next_p w sl end at → end ≤ 16777216 → (i k : ℕ) → i ≡ w (at + 4) → k ≡ kind_of i → (start' : List ℕ)
+          → start' ≡ set start x (at % 134217728 * 32 + k % 32) → (d : ℕ) → d ≡ enums_of i → Turning w sl from end start₀ next (x + 1) (e + d) start'
+      turning_more next ne few i k fi fk start' fs d fd = record {
+        come = λ h. passing_more w sl from end start₀ at x e start (t.come m) l (omega arith) next ne few i k fi fk start' fs d fd;
+        many = λ h. scan_many w sl from end start₀ at x e start (t.come m) l (omega arith);
+      }
 
 -- ---- extra_of, against `spec_linux_btf`
 abbrev to_extra : Shape → ℕ → Option ℕ

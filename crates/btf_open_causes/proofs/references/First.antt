@@ -11,15 +11,15 @@ use Rattle.std.proofs.iter.Yields.{nat_range_steps}
 use Rattle.std.proofs.iter.runs.Sources.{range_runs}
 use Rattle.std.proofs.Common.{Option, Some, None}
 
-none_some : {p : ℕ} → None ≡ Some p → ⊥
+pub none_some : {p : ℕ} → None ≡ Some p → ⊥
 none_some h = cc
 
 -- the item at place k of a run over a range
-item_if : (o : Option ℕ) (P : ℕ → Type 0) (n e : ℕ) → IfSome o (λ x. (x ≡ n) × (x < e)) → option_map (λ y. y) o ≡ Some n → IfSome o P → P n
+pub item_if : (o : Option ℕ) (P : ℕ → Type 0) (n e : ℕ) → IfSome o (λ x. (x ≡ n) × (x < e)) → option_map (λ y. y) o ≡ Some n → IfSome o P → P n
 item_if None P n e w l h = absurd (none_some l)
 item_if (Some x) P n e w l h = subst P w.0 h
 
-item_of : (o : Option ℕ) (P : ℕ → Type 0) (n e : ℕ) → IfSome o (λ x. (x ≡ n) × (x < e)) → IsSomeAnd o P → P n × (n < e)
+pub item_of : (o : Option ℕ) (P : ℕ → Type 0) (n e : ℕ) → IfSome o (λ x. (x ≡ n) × (x < e)) → IsSomeAnd o P → P n × (n < e)
 item_of None P n e w h = absurd h
 item_of (Some x) P n e w h = (subst P w.0 h, subst (λ m. m < e) w.0 w.1)
 

@@ -6,6 +6,8 @@ use Rattle.spec_bytes.specs.words.Words.{pick}
 use Rattle.spec_linux_btf.specs.Section.{is_big_endian, little_endian, word_of, strings_sound}
 use Rattle.spec_type_table.specs.declared.types.TypeTable.{TypeTable}
 use Rattle.btf_open_causes.specs.declared.header.Header.{Header}
+use Rattle.btf_open_causes.specs.declared.header.Mode.{Mode}
+use Rattle.btf_open_causes.specs.declared.header.Mode.TheVariants.{UnionAsStruct, StrongArrays, Placing, NamesApart}
 
 -- struct btf_header from hdr_len on, in the section's order
 unfoldable pub header_of : List ℕ → Header
@@ -15,6 +17,13 @@ header_of s =
 -- where the string area starts, "offsets count from the header's end"; a place that 32 bits cannot hold lies past every section
 unfoldable pub strings_at : List ℕ → ℕ
 strings_at s = pick (ltb (word_of s 4 + word_of s 16) 4294967296) (word_of s 4 + word_of s 16) 4294967295
+
+-- the bit of a mode, of which the session's modes are the sum
+abbrev pub mode_bit : Mode → ℕ
+mode_bit UnionAsStruct = 1
+mode_bit StrongArrays = 2
+mode_bit Placing = 4
+mode_bit NamesApart = 8
 
 -- what a table's types need of its header and settings: "pointer size 4 or 8"; "union_as_struct, chosen at opening" (bit 0); "a setting
 -- under which passing an array forgets pointers passed before it" (bit 1); "a placing mode beside the old one" (bit 2);

@@ -22,7 +22,7 @@ const KINDS: u32 = 32;
 const PLACES: u32 = 134217728;
 
 impl Entry {
-    // The entry of a record of a kind at a place.
+    // The entry of a record of a kind at a place. (The kind's bits and no Kind: an entry is written before its record is tested.)
     pub fn new(at: u32, kind: u32) -> Entry
         ensures { result.word ≡ at % 134217728 * 32 + kind % 32 }
     {

@@ -9,10 +9,14 @@ use native.Mathlib.Decide.{ℕ_discrete}
 use lib.ListN.{length, get_or}
 use lib.Dec.{leb}
 use borrow.Author.Tests.{le-leb, lt-leb, eq-eqb, ne_eqb}
+use Rattle.std.proofs.lemmas.Bool.{cases_lt}
+use Rattle.std.proofs.Common.{Option, None, Some, unwrap_or}
+use Rattle.std.specs.Option.{MatchOption}
+use Rattle.btf_open_names.specs.suffixes.Found.{unless_zero}
+use Rattle.btf_open_names.proofs.suffixes.Found.{none_zero, some_number}
 use Rattle.spec_bytes.specs.words.Words.{pick}
-use Rattle.spec_bytes.proofs.words.Laws.{le_or_lt}
 use Rattle.spec_type_table.specs.Names.{up_to_zero, name_at}
-use Rattle.btf_open_names.proofs.name_classes.Names.{name_end, name_zero, name_more}
+use Rattle.spec_type_table.proofs.NameLaws.{name_more, name_zero, name_end}
 use Rattle.btf_open_names.specs.filled_work.Takers.{digit_after, numeral_from, numeral, after_underscores, suffix_in, suffix_on}
 
 -- ---- digit_after
@@ -29,7 +33,7 @@ module _ (acc x : ℕ) where
 
   pub digit_not : (x < 48) ⊎ (57 < x) → 0 ≡ digit_after acc x
   digit_not (inl h) = digit_low h
-  digit_not (inr h) = ⊎_elim (λ l. digit_high l h) (λ l. digit_low l) (le_or_lt 48 x)
+  digit_not (inr h) = ⊎_elim (λ l. digit_low l) (λ l. digit_high l h) (cases_lt x 48)
 
   pub digit_past : (v : ℕ) → 48 ≤ x → x ≤ 57 → v ≡ acc * 10 + (x - 48) → 4294967295 < v → 0 ≡ digit_after acc x
   digit_past v l h e m = sym (by_tests true true false (le-leb 48 x l) (le-leb x 57 h) (lt-leb (acc * 10 + (x - 48)) 4294967295 (omega (arith, e))))
@@ -37,34 +41,30 @@ module _ (acc x : ℕ) where
   pub digit_next : (v : ℕ) → 48 ≤ x → x ≤ 57 → v ≡ acc * 10 + (x - 48) → v ≤ 4294967295 → v ≡ digit_after acc x
   digit_next v l h e m = e ∙ sym (by_tests true true true (le-leb 48 x l) (le-leb x 57 h) (le-leb (acc * 10 + (x - 48)) 4294967295 (omega (arith, e))))
 
--- ---- numeral_at, turn by turn
-module _ (s : List ℕ) (r acc k : ℕ) (inv : r ≡ numeral_from acc (name_at s k)) where
-  pub numeral_end : length s ≤ k → acc ≡ r
+-- ---- numeral, by its digits
+abbrev pub Numbers : ℕ → List ℕ → Option ℕ → Type 0
+Numbers acc l r = unwrap_or r 0 ≡ numeral_from acc l
+
+pub numeral_end : (acc : ℕ) → Numbers acc [] (Some acc)
+unfolding numeral_from
+numeral_end acc = refl
+
+module _ (acc x : ℕ) where
+  by_digit : (v : ℕ) (l : List ℕ) → v ≡ digit_after acc x → numeral_from acc (x ∷ l) ≡ elim v as (λ z. ℕ) [ zero ↦ 0 | suc u ↦ numeral_from (suc u) l ]
   unfolding numeral_from
-  numeral_end l = sym (inv ∙ ap (numeral_from acc) (name_end s k l))
+  by_digit v l e = ap (λ (z : ℕ). elim z as (λ y. ℕ) [ zero ↦ 0 | suc u ↦ numeral_from (suc u) l ]) (sym e)
 
-  pub numeral_zero : get_or s k 0 ≡ 0 → acc ≡ r
-  unfolding numeral_from
-  numeral_zero e = sym (inv ∙ ap (numeral_from acc) (name_zero s k e))
-
-  more : (get_or s k 0 ≡ 0 → ⊥) → (v : ℕ) → v ≡ digit_after acc (get_or s k 0) → r ≡ elim v as (λ z. ℕ) [ zero ↦ 0 | suc u ↦ numeral_from (suc u) (name_at s (k + 1)) ]
-  unfolding numeral_from
-  more n v e = inv ∙ ap (numeral_from acc) (name_more s k n) ∙ ap (λ (z : ℕ). elim z as (λ y. ℕ) [ zero ↦ 0 | suc u ↦ numeral_from (suc u) (name_at s (k + 1)) ]) (sym e)
-
-  pub numeral_no : (v : ℕ) → (get_or s k 0 ≡ 0 → ⊥) → v ≡ digit_after acc (get_or s k 0) → v ≡ 0 → 0 ≡ r
-  numeral_no zero n e z = sym (more n zero e)
-  numeral_no (suc v) n e z = absurd (omega arith)
-
-  pub numeral_turn : (v : ℕ) → (get_or s k 0 ≡ 0 → ⊥) → v ≡ digit_after acc (get_or s k 0) → (v ≡ 0 → ⊥) → r ≡ numeral_from v (name_at s (k + 1))
-  numeral_turn zero n e z = absurd (z refl)
-  numeral_turn (suc v) n e z = more n (suc v) e
+  pub numeral_more : (w : Option ℕ) → w ≡ unless_zero (digit_after acc x) → MatchOption w ((l : List ℕ) → Numbers acc (x ∷ l) None) (λ v. (l : List ℕ) (r : Option ℕ) → Numbers v l r → Numbers acc (x ∷ l) r)
+  numeral_more None e = λ l. sym (by_digit 0 l (sym (none_zero (digit_after acc x) e)))
+  numeral_more (Some zero) e = λ l r q. absurd ((some_number (digit_after acc x) 0 e).1 refl)
+  numeral_more (Some (suc v)) e = λ l r q. q ∙ sym (by_digit (suc v) l (some_number (digit_after acc x) (suc v) e).0)
 
 -- ---- suffix_in
 under_here : (n x : ℕ) (l : List ℕ) → x ≡ 95 → after_underscores (suc n) (x ∷ l) ≡ after_underscores n l
 unfolding after_underscores
 under_here n x l e = ap (λ (t : Bool). elim t as (λ z. ℕ) [ true ↦ after_underscores n l | false ↦ 0 ]) (eq-eqb x 95 e)
 
-under_other : (n x : ℕ) (l : List ℕ) → (x ≡ 95 → ⊥) → after_underscores (suc n) (x ∷ l) ≡ 0
+pub under_other : (n x : ℕ) (l : List ℕ) → (x ≡ 95 → ⊥) → after_underscores (suc n) (x ∷ l) ≡ 0
 unfolding after_underscores
 under_other n x l e = ap (λ (t : Bool). elim t as (λ z. ℕ) [ true ↦ after_underscores n l | false ↦ 0 ]) (ne_eqb x 95 e)
 
@@ -95,16 +95,16 @@ unfolding after_underscores up_to_zero
 suffix_all s l e = rw e
 
 -- ---- suffix_on, turn by turn
-on_none : (x : List ℕ) → suffix_on x [] ≡ 0
+pub on_none : (x : List ℕ) → suffix_on x [] ≡ 0
 unfolding suffix_on after_underscores
 on_none [] = refl
 on_none (a ∷ x) = refl
 
-on_same : (a b : ℕ) (x y : List ℕ) → a ≡ b → suffix_on (a ∷ x) (b ∷ y) ≡ suffix_on x y
+pub on_same : (a b : ℕ) (x y : List ℕ) → a ≡ b → suffix_on (a ∷ x) (b ∷ y) ≡ suffix_on x y
 unfolding suffix_on
 on_same a b x y e = ap (λ (t : Bool). elim t as (λ z. ℕ) [ true ↦ suffix_on x y | false ↦ 0 ]) (eq-eqb a b e)
 
-on_other : (a b : ℕ) (x y : List ℕ) → (a ≡ b → ⊥) → suffix_on (a ∷ x) (b ∷ y) ≡ 0
+pub on_other : (a b : ℕ) (x y : List ℕ) → (a ≡ b → ⊥) → suffix_on (a ∷ x) (b ∷ y) ≡ 0
 unfolding suffix_on
 on_other a b x y e = ap (λ (t : Bool). elim t as (λ z. ℕ) [ true ↦ suffix_on x y | false ↦ 0 ]) (ne_eqb a b e)
 
@@ -119,9 +119,9 @@ module _ (x y : List ℕ) (r k : ℕ) (inv : r ≡ suffix_on (name_at x k) (name
 
     pub on_differ : (a ≡ 0 → ⊥) → (a ≡ get_or y k 0 → ⊥) → 0 ≡ r
     on_differ n d = sym (inv ∙ ap (λ (l : List ℕ). suffix_on l (name_at y k)) (name_more x k (λ q. n (e ∙ q))) ∙ ⊎_elim
-        (λ l. ap (suffix_on (get_or x k 0 ∷ name_at x (k + 1))) (name_zero y k (omega arith)) ∙ on_none (get_or x k 0 ∷ name_at x (k + 1)))
         (λ l. ap (suffix_on (get_or x k 0 ∷ name_at x (k + 1))) (name_more y k (λ q. omega (arith, q))) ∙ on_other (get_or x k 0) (get_or y k 0) (name_at x (k + 1)) (name_at y (k + 1)) (λ q. d (e ∙ q)))
-        (le_or_lt (get_or y k 0) 0))
+        (λ l. ap (suffix_on (get_or x k 0 ∷ name_at x (k + 1))) (name_zero y k (omega arith)) ∙ on_none (get_or x k 0 ∷ name_at x (k + 1)))
+        (cases_lt 0 (get_or y k 0)))
 
     pub on_turn : (a ≡ 0 → ⊥) → a ≡ get_or y k 0 → r ≡ suffix_on (name_at x (k + 1)) (name_at y (k + 1))
     on_turn n d =

@@ -9,8 +9,9 @@ use native.Mathlib.Decide.{ℕ_discrete}
 use lib.ListN.{length, get_or}
 use lib.Dec.{ltb, eqb}
 use borrow.Author.Tests.{ltb-true}
+use Rattle.std.proofs.lemmas.Bool.{cases_lt}
 use Rattle.spec_bytes.specs.words.Words.{get_word}
-use Rattle.spec_bytes.proofs.words.Laws.{le_or_lt, get_put_same, get_put_other, put_length}
+use Rattle.spec_bytes.proofs.words.Laws.{get_put_same, get_put_other, put_length}
 use Rattle.spec_type_table.specs.declared.types.TypeTable.{TypeTable}
 use Rattle.spec_type_table.specs.Cells.{get_field, put_field, place_of}
 use Rattle.spec_type_table.specs.Records.{section_word, vlen_of}
@@ -228,9 +229,9 @@ module _ (b : TypeTable) (s start : List ℕ) where
   unfolding enumerator_word
   enumerator_apart e f g h a c n q =
       ⊎_elim
-      (λ m. n (same (q ∙ sym (place_enum b.types f g h m))))
       (λ m. absurd (omega (arith, q, place_type b.types f g h m)))
-      (le_or_lt b.types h)
+      (λ m. n (same (q ∙ sym (place_enum b.types f g h m))))
+      (cases_lt h b.types)
     where
       same : b.types * 16 + e * 8 ≡ b.types * 16 + (h - b.types) * 8 + g → g ≡ 0
       same z = omega arith

@@ -7,8 +7,9 @@ use mathlib.Core.Logic.{◌≢◌, ◌⊎◌, inl, inr, ⊎_elim}
 use native.Mathlib.Omega.{arith}
 use lib.ListN.{length}
 use lib.Dec.{ltb, leb, eqb}
+use Rattle.std.proofs.lemmas.Bool.{cases_lt}
 use Rattle.spec_bytes.specs.words.Words.{get_word, put_word}
-use Rattle.spec_bytes.proofs.words.Laws.{le_or_lt, put_length, get_put_other}
+use Rattle.spec_bytes.proofs.words.Laws.{put_length, get_put_other}
 use Rattle.spec_type_table.specs.declared.types.TypeTable.{TypeTable}
 use Rattle.spec_type_table.specs.Cells.{place_of, class_p}
 use Rattle.spec_type_table.specs.Numbers.{head_p, next_p, taken_p}
@@ -93,7 +94,7 @@ module _ (modes : ℕ) (b : TypeTable) (e : ℕ) (s w : List ℕ) (some : 1 ≤ 
 
 -- words that are none of a list
 form : (types f g h i : ℕ) → (i ≡ h * 16 + f → h < types → ⊥) → (i ≡ types * 16 + (h - types) * 8 + g → types ≤ h → ⊥) → i ≢ place_of types f g h
-form types f g h i p q e = ⊎_elim (λ l. q (e ∙ sym (place_enum types f g h l)) l) (λ l. p (e ∙ sym (place_type types f g h l)) l) (le_or_lt types h)
+form types f g h i p q e = ⊎_elim (λ l. p (e ∙ sym (place_type types f g h l)) l) (λ l. q (e ∙ sym (place_enum types f g h l)) l) (cases_lt h types)
 
 -- word f of a type below the count
 pub field_unlisted : (types n id f : ℕ) → id < types → f < 16 → f ≢ 7 → f ≢ 8 → f ≢ 14 → Unlisted types n (id * 16 + f)
@@ -130,6 +131,6 @@ place_unlisted types n f g h a c n7 n8 n14 n3 n4 n6 = record {
     apart : (f' g' : ℕ) → f ≢ f' → g ≢ g' → f' < 16 → g' < 8 → (k : ℕ) → place_of types f g h ≢ place_of types f' g' k
     apart f' g' nf ng p q k e =
         ⊎_elim
-        (λ l. ⊎_elim (λ m. ng (omega (arith, place_enum types f g h l, place_enum types f' g' k m))) (λ m. omega (arith, place_enum types f g h l, place_type types f' g' k m)) (le_or_lt types k))
-        (λ l. ⊎_elim (λ m. omega (arith, place_type types f g h l, place_enum types f' g' k m)) (λ m. nf (omega (arith, place_type types f g h l, place_type types f' g' k m))) (le_or_lt types k))
-        (le_or_lt types h)
+        (λ l. ⊎_elim (λ m. nf (omega (arith, place_type types f g h l, place_type types f' g' k m))) (λ m. omega (arith, place_type types f g h l, place_enum types f' g' k m)) (cases_lt k types))
+        (λ l. ⊎_elim (λ m. omega (arith, place_enum types f g h l, place_type types f' g' k m)) (λ m. ng (omega (arith, place_enum types f g h l, place_enum types f' g' k m))) (cases_lt k types))
+        (cases_lt h types)

@@ -16,27 +16,17 @@ use Rattle.std.proofs.Common.{None, Some}
 use Rattle.btf_open_names.specs.declared.suffixes.bases.Base.{Base}
 use Rattle.btf_open_names.specs.suffixes.Based.{based}
 use Rattle.btf_open_names.specs.filled_work.Takers.{after_underscores, suffix_on, any_suffix, name_in, base_from, listed_on, on_base, taker_put, takers_put, with_takers, takers_in}
+use Rattle.btf_open_names.proofs.name_classes.Keys.{key_some}
+use Rattle.btf_open_names.proofs.filled_work.Bytes.{on_same, on_other}
 
 -- ---- keys
 key_none : (s : List ℕ) (x a : ℕ) → x ≡ 2 → key_of s x a ≡ x ∷ []
 unfolding key_of
 key_none s x a e = ap (λ (t : Bool). x ∷ elim t as (λ z. List ℕ) [ true ↦ [] | false ↦ name_at s a ]) (eq-eqb x 2 e)
 
-key_some : (s : List ℕ) (x a : ℕ) → (x ≡ 2 → ⊥) → key_of s x a ≡ x ∷ name_at s a
-unfolding key_of
-key_some s x a e = ap (λ (t : Bool). x ∷ elim t as (λ z. List ℕ) [ true ↦ [] | false ↦ name_at s a ]) (ne_eqb x 2 e)
-
 key_cons : (s : List ℕ) (x a : ℕ) → (l : List ℕ) × (key_of s x a ≡ x ∷ l)
 unfolding key_of
 key_cons s x a = (elim (eqb x 2) as (λ z. List ℕ) [ true ↦ [] | false ↦ name_at s a ], refl)
-
-on_same : (a b : ℕ) (x y : List ℕ) → a ≡ b → suffix_on (a ∷ x) (b ∷ y) ≡ suffix_on x y
-unfolding suffix_on
-on_same a b x y e = ap (λ (t : Bool). elim t as (λ z. ℕ) [ true ↦ suffix_on x y | false ↦ 0 ]) (eq-eqb a b e)
-
-on_other : (a b : ℕ) (x y : List ℕ) → (a ≡ b → ⊥) → suffix_on (a ∷ x) (b ∷ y) ≡ 0
-unfolding suffix_on
-on_other a b x y e = ap (λ (t : Bool). elim t as (λ z. ℕ) [ true ↦ suffix_on x y | false ↦ 0 ]) (ne_eqb a b e)
 
 on_empty : suffix_on [] [] ≡ 0
 unfolding suffix_on after_underscores

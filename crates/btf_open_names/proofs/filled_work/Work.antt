@@ -8,8 +8,9 @@ use native.Mathlib.Omega.{arith}
 use native.Mathlib.Decide.{ℕ_discrete}
 use lib.ListN.{length, get_or}
 use lib.Dec.{ltb, eqb}
+use Rattle.std.proofs.lemmas.Bool.{cases_lt}
 use Rattle.spec_bytes.specs.words.Words.{get_word}
-use Rattle.spec_bytes.proofs.words.Laws.{le_or_lt, get_put_same, get_put_other, put_length}
+use Rattle.spec_bytes.proofs.words.Laws.{get_put_same, get_put_other, put_length}
 use Rattle.spec_type_table.specs.declared.types.TypeTable.{TypeTable}
 use Rattle.spec_type_table.specs.Cells.{get_field, put_field, place_of}
 use Rattle.spec_type_table.specs.Records.{section_word}
@@ -25,9 +26,9 @@ module _ (types id f : ℕ) (l : id < types) (f16 : f < 16) where
   place_other : (g k h : ℕ) → g < 16 → f ≢ g → id * 16 + f ≢ place_of types g k h
   place_other g k h g16 n e =
       ⊎_elim
-      (λ m. absurd (omega (arith, e, place_enum types g k h m)))
       (λ m. n (same (e ∙ sym (place_type types g k h m))))
-      (le_or_lt types h)
+      (λ m. absurd (omega (arith, e, place_enum types g k h m)))
+      (cases_lt h types)
     where
       same : id * 16 + f ≡ h * 16 + g → f ≡ g
       same q = omega arith

@@ -5,26 +5,24 @@ use mathlib.Core.Bool.{Bool, true, false}
 use mathlib.Core.List.{List}
 use mathlib.Core.Logic.{⊎_elim, ◌≢◌}
 use native.Mathlib.Omega.{arith}
-use lib.ListN.{length, get_or, replicate, length-replicate, get_or-replicate, get_or-eq_default}
+use lib.ListN.{length, get_or, replicate}
 use lib.Dec.{ltb, eqb}
 use borrow.Author.Tests.{ltb-true}
+use Rattle.std.proofs.lemmas.Bool.{cases_lt}
 use Rattle.spec_bytes.specs.words.Words.{get_word}
-use Rattle.spec_bytes.proofs.words.Laws.{le_or_lt, get_in, get_out, get_put_other}
+use Rattle.spec_bytes.proofs.words.Laws.{get_in, get_out, get_put_other, get_replicate}
 use Rattle.spec_type_table.specs.declared.types.TypeTable.{TypeTable}
 use Rattle.spec_type_table.specs.Cells.{get_field, put_field, count_p}
 use Rattle.spec_type_table.specs.Records.{section_word}
 use Rattle.spec_type_table.proofs.Laws.{place_type, place_enum}
 use Rattle.btf_open_names.specs.filled_work.Left.{places_put, value_place, enumerator_word, values_put, is_enum, enum_with, values_at, tag_put, enums_to, enums_put, tags_put}
 
-zero_at : (n i : ℕ) → get_or {A = ℕ} (replicate n 0) i 0 ≡ 0
-zero_at n i = ⊎_elim (λ l. get_or-eq_default (replicate n 0) 0 {n = i} (rw (length-replicate {A = ℕ} n 0) l)) (λ l. get_or-replicate {A = ℕ} n i 0 0 l) (le_or_lt n i)
-
 pub zeros_word : (n i : ℕ) → get_word (replicate n 0) i ≡ 0
 zeros_word n i =
     ⊎_elim
+    (λ l. get_in (replicate n 0) i l ∙ rw (get_replicate {A = ℕ} 0 n (i * 4), get_replicate {A = ℕ} 0 n (i * 4 + 1), get_replicate {A = ℕ} 0 n (i * 4 + 2), get_replicate {A = ℕ} 0 n (i * 4 + 3)))
     (λ l. get_out (replicate n 0) i l)
-    (λ l. get_in (replicate n 0) i l ∙ rw (zero_at n (i * 4), zero_at n (i * 4 + 1), zero_at n (i * 4 + 2), zero_at n (i * 4 + 3)))
-    (le_or_lt (length {A = ℕ} (replicate n 0) / 4) i)
+    (cases_lt i (length {A = ℕ} (replicate n 0) / 4))
 
 -- word i is no place, no first enumerator, no first or next tag of a type, and no place of an enumerator
 pub record Other (types i : ℕ) : Type 0 where
@@ -119,7 +117,7 @@ other_field types id f l m a c d e = record {
 pub other_count : (types h : ℕ) → Other types (count_p types h)
 other_count types h =
     ⊎_elim
-    (λ l. rw (← place_enum types 6 2 h l) (other_value types (h - types) 2 (omega arith) (λ q. absurd (omega arith))))
     (λ l. rw (← place_type types 6 2 h l)
     (other_field types h 6 l (omega arith) (λ q. absurd (omega arith)) (λ q. absurd (omega arith)) (λ q. absurd (omega arith)) (λ q. absurd (omega arith))))
-    (le_or_lt types h)
+    (λ l. rw (← place_enum types 6 2 h l) (other_value types (h - types) 2 (omega arith) (λ q. absurd (omega arith))))
+    (cases_lt h types)

@@ -9,13 +9,13 @@ use native.Mathlib.Nat.{mod-lt}
 use lib.ListN.{length}
 use lib.Dec.{ltb, eqb}
 use borrow.Author.Tests.{eq-eqb, ne_eqb, eqb-true, eqb-false, lt-ltb, le-ltb}
+use Rattle.std.proofs.lemmas.Bool.{cases_lt}
 use Rattle.spec_bytes.specs.words.Words.{get_word, put_word}
-use Rattle.spec_bytes.proofs.words.Laws.{le_or_lt}
 use Rattle.spec_type_table.specs.declared.types.TypeTable.{TypeTable}
 use Rattle.btf_open_names.specs.name_classes.Classes.{fill, noughts, key_of, key_in}
 use Rattle.btf_open_names.specs.name_classes.Table.{hash_key, bucket_of}
 use Rattle.btf_open_names.proofs.name_classes.Fill.{fill_length, get_else, get_fill, put_else, put_fill, fill_same}
-use Rattle.std.proofs.Common.{Option, None, Some}
+use Rattle.std.proofs.Common.{Option, None, Some, is_some}
 use Rattle.btf_open_names.specs.holders.Holders.{holders_in}
 use Rattle.btf_open_names.specs.hash_table.Hashed.{first_p, later_p, space_in, falls, first_from, first_of, later_of, over, table_from, put_first, all_zero, has_room, table_in, Table}
 use Rattle.btf_open_names.proofs.hash_table.Places.{first_one, later_one, first_in, later_in, later_first, over_zero, keys_over}
@@ -76,9 +76,9 @@ module _ (key : ℕ → List ℕ) (n : ℕ) where
   later_else : (k c : ℕ) → c ≢ k → later_of key n (suc k) c ≡ later_of key n k c
   later_else k c o =
       ⊎_elim
-      (λ l. later_by (suc k) c false (eqb (space_in (key c)) 2) (le-ltb c (suc k) (omega arith)) refl ∙ sym (later_by k c false (eqb (space_in (key c)) 2) (le-ltb c k l) refl))
       (λ l. later_low (suc k) c (omega arith) ∙ sym (later_low k c l))
-      (le_or_lt k c)
+      (λ l. later_by (suc k) c false (eqb (space_in (key c)) 2) (le-ltb c (suc k) (omega arith)) refl ∙ sym (later_by k c false (eqb (space_in (key c)) 2) (le-ltb c k l) refl))
+      (cases_lt c k)
 
 -- ---- the work, holder by holder
 module _ (key : ℕ → List ℕ) (t n : ℕ) (w₀ : List ℕ) where
@@ -97,7 +97,7 @@ module _ (key : ℕ → List ℕ) (t n : ℕ) (w₀ : List ℕ) where
   state_none k l e =
       fill_same (first_p t) (first_of key n (suc k)) (first_of key n k) (fill (later_p t) (later_of key n (suc k)) w₀ n) n (λ j m. sym (first_at key n j k false l (falls_none key n j k e)))
       ∙ ap (λ (u : List ℕ). fill (first_p t) (first_of key n k) u n) (fill_same (later_p t) (later_of key n (suc k)) (later_of key n k) w₀ n
-      (λ c m. ⊎_elim (λ d. later_else key n k c (omega arith)) (λ d. ⊎_elim (λ g. let q : c ≡ k = omega arith in later_low key n (suc k) c (omega arith) ∙ sym (later_none key n k c (omega arith) (ap (λ (x : ℕ). space_in (key x)) q ∙ e))) (λ g. later_else key n k c (omega arith)) (le_or_lt c k)) (le_or_lt (suc c) k)))
+      (λ c m. ⊎_elim (λ d. ⊎_elim (λ g. later_else key n k c (omega arith)) (λ g. let q : c ≡ k = omega arith in later_low key n (suc k) c (omega arith) ∙ sym (later_none key n k c (omega arith) (ap (λ (x : ℕ). space_in (key x)) q ∙ e))) (cases_lt k c)) (λ d. later_else key n k c (omega arith)) (cases_lt k (suc c))))
 
   module _ (k : ℕ) (l : k < n) (o : space_in (key k) ≢ 2) where
     abbrev bucket : ℕ
@@ -157,7 +157,7 @@ module _ (at : ℕ → ℕ) (w : List ℕ) where
   zero_all (suc n) e h l = go (λ r m. zero_all n r h m) (eqb (get_word w (at n)) 0) refl e
     where
       go : (all_zero at w n ≡ true → h < n → get_word w (at h) ≡ 0) → (t : Bool) → eqb (get_word w (at n)) 0 ≡ t → elim t as (λ z. Bool) [ true ↦ all_zero at w n | false ↦ false ] ≡ true → get_word w (at h) ≡ 0
-      go below true q r = ⊎_elim (λ m. let d : h ≡ n = omega arith in ap (λ (x : ℕ). get_word w (at x)) d ∙ eqb-true (get_word w (at n)) 0 q) (below r) (le_or_lt n h)
+      go below true q r = ⊎_elim (below r) (λ m. let d : h ≡ n = omega arith in ap (λ (x : ℕ). get_word w (at x)) d ∙ eqb-true (get_word w (at n)) 0 q) (cases_lt h n)
       go below false q r = let z : ◌≡◌ {A = ℕ} 0 1 = cc in absurd (omega arith)
 
 -- ---- has_room
@@ -176,11 +176,11 @@ module _ (t e : ℕ) (w : List ℕ) where
   unfolding has_room
   room_by p q x y ep eq ex ey = λ i. room (ep i) (eq i) (ex i) (ey i)
 
-  pub room_none : None ≡ holders_in t e w → false ≡ has_room t e w
+  pub room_none : false ≡ is_some (holders_in t e w) → false ≡ has_room t e w
   unfolding has_room holders_in
   room_none = go (ltb (4294967295 - t) e) (ltb (length w / 4) (t * 16 + e * 8)) (all_zero (first_p t) w (t + e)) (all_zero (later_p t) w (t + e))
     where
-      go : (p q x y : Bool) → ◌≡◌ {A = Option ℕ} None (elim p as (λ z. Option ℕ) [ true ↦ None | false ↦ elim q as (λ z. Option ℕ) [ true ↦ None | false ↦ Some (t + e) ] ]) → false ≡ room p q x y
+      go : (p q x y : Bool) → false ≡ is_some (elim p as (λ z. Option ℕ) [ true ↦ None | false ↦ elim q as (λ z. Option ℕ) [ true ↦ None | false ↦ Some (t + e) ] ]) → false ≡ room p q x y
       go true q x y z = refl
       go false true x y z = refl
       go false false x y z = absurd (cc)
@@ -206,17 +206,14 @@ module _ (t e : ℕ) (w : List ℕ) where
       go false false false y ep eq ex ey r = no r
       go false false true y ep eq ex ey r =
           record {
-            numbered = ⊎_elim (λ l. l) (λ l. absurd (false_not (sym ep ∙ lt-ltb (4294967295 - t) e l))) (le_or_lt e (4294967295 - t));
-            long = ⊎_elim (λ l. l) (λ l. absurd (false_not (sym eq ∙ lt-ltb (length w / 4) (t * 16 + e * 8) l))) (le_or_lt (t * 16 + e * 8) (length w / 4));
+            numbered = ⊎_elim (λ l. absurd (false_not (sym ep ∙ lt-ltb (4294967295 - t) e l))) (λ l. l) (cases_lt (4294967295 - t) e);
+            long = ⊎_elim (λ l. absurd (false_not (sym eq ∙ lt-ltb (length w / 4) (t * 16 + e * 8) l))) (λ l. l) (cases_lt (length w / 4) (t * 16 + e * 8));
             firsts = zero_all (first_p t) w (t + e) ex;
             laters = zero_all (later_p t) w (t + e) (ey ∙ r);
           }
         where
           false_not : ◌≡◌ {A = Bool} false true → ⊥
           false_not z = let d : ◌≡◌ {A = ℕ} 0 1 = cc in omega arith
-
-  pub room_fits : (r : Bool) → r ≡ has_room t e w → r ≡ true → e ≤ 4294967295 - t
-  room_fits r q z = (room_is (sym q ∙ z)).numbered
 
 -- ---- make_table
 over_none : (t n : ℕ) (f g : ℕ → ℕ) (w : List ℕ) → n ≡ 0 → over t n f g w ≡ w
@@ -276,9 +273,9 @@ module _ (b : TypeTable) (s : List ℕ) (e : ℕ) (w₀ : List ℕ) where
     table_end k w l m f =
         f
         ∙ ⊎_elim
-        (λ a. nothing a)
         (λ a. let p : k ≡ 1 = omega arith in ap (λ (x : ℕ). table_from b s n x w₀) p)
-        (le_or_lt n 0)
+        (λ a. nothing a)
+        (cases_lt 0 n)
         ∙ ap (λ (x : ℕ). table_from b s x 1 w₀) en
         ∙ sym (in_by true (sym q ∙ z))
       where

@@ -1,12 +1,14 @@
 -- The words of the table stand apart from each other and from those that the lists and the keys use. Assumes nothing.
 use Prim.Native.Nat.{ℕ, zero, suc, ◌+◌, ◌*◌, ◌/◌, ◌<◌}
 use mathlib.Core.Path.{◌≡◌, refl, ap, ◌∙◌, sym, fun_ext}
-use mathlib.Core.List.{List, [], ◌∷◌}
+use mathlib.Core.List.{List}
 use mathlib.Core.Logic.{⊎_elim, ◌≢◌}
 use native.Mathlib.Omega.{arith}
 use lib.ListN.{length, get_or, set}
+use Rattle.std.proofs.lemmas.Bool.{cases_lt}
+use Rattle.std.proofs.lemmas.List.{set-get_or}
 use Rattle.spec_bytes.specs.words.Words.{get_word, put_word}
-use Rattle.spec_bytes.proofs.words.Laws.{le_or_lt, get_in, put_in, put_out}
+use Rattle.spec_bytes.proofs.words.Laws.{get_in, put_in, put_out}
 use Rattle.spec_type_table.specs.declared.types.TypeTable.{TypeTable}
 use Rattle.btf_open_names.specs.name_classes.Classes.{fill, noughts, record_p, space_at, name_of, key_of, key_in}
 use Rattle.btf_open_names.proofs.name_classes.Fill.{fill_length, get_else, put_else, fill_over, fill_swap}
@@ -14,27 +16,22 @@ use Rattle.btf_open_names.proofs.name_classes.Keys.{place_one, place_in, place_a
 use Rattle.btf_open_names.specs.hash_table.Hashed.{first_p, later_p, over}
 
 -- ---- a word that is 0 set to 0
-set_zero : (l : List ℕ) (i : ℕ) → get_or l i 0 ≡ 0 → set l i 0 ≡ l
-set_zero [] i e = refl
-set_zero (x ∷ l) zero e = ap (λ (v : ℕ). v ∷ l) (sym e)
-set_zero (x ∷ l) (suc i) e = ap (λ (m : List ℕ). x ∷ m) (set_zero l i e)
-
 put_zero : (w : List ℕ) (i : ℕ) → get_word w i ≡ 0 → put_word w i 0 ≡ w
 put_zero w i e =
-    ⊎_elim (put_out w i 0)
-    (λ l.
+    ⊎_elim (λ l.
     let at : ℕ = i * 4 in
     let z : get_or w at 0 + get_or w (at + 1) 0 * 256 + get_or w (at + 2) 0 * 65536 + get_or w (at + 3) 0 * 16777216 ≡ 0 = sym (get_in w i l) ∙ e in
-    let e₀ : set w at 0 ≡ w = set_zero w at (omega arith) in
-    let e₁ : set w (at + 1) 0 ≡ w = set_zero w (at + 1) (omega arith) in
-    let e₂ : set w (at + 2) 0 ≡ w = set_zero w (at + 2) (omega arith) in
-    let e₃ : set w (at + 3) 0 ≡ w = set_zero w (at + 3) (omega arith) in
+    let e₀ : set w at 0 ≡ w = (ap (set w (at)) (sym (omega arith)) ∙ set-get_or w (at) 0) in
+    let e₁ : set w (at + 1) 0 ≡ w = (ap (set w ((at + 1))) (sym (omega arith)) ∙ set-get_or w ((at + 1)) 0) in
+    let e₂ : set w (at + 2) 0 ≡ w = (ap (set w ((at + 2))) (sym (omega arith)) ∙ set-get_or w ((at + 2)) 0) in
+    let e₃ : set w (at + 3) 0 ≡ w = (ap (set w ((at + 3))) (sym (omega arith)) ∙ set-get_or w ((at + 3)) 0) in
     put_in w i 0 l
     ∙ ap (λ (c : List ℕ). set (set (set c (at + 1) 0) (at + 2) 0) (at + 3) 0) e₀
     ∙ ap (λ (c : List ℕ). set (set c (at + 2) 0) (at + 3) 0) e₁
     ∙ ap (λ (c : List ℕ). set c (at + 3) 0) e₂
     ∙ e₃)
-    (le_or_lt (length w / 4) i)
+    (put_out w i 0)
+    (cases_lt i (length w / 4))
 
 fill_zero : (at : ℕ → ℕ) (w : List ℕ) (n : ℕ) → ((h : ℕ) → h < n → get_word w (at h) ≡ 0) → fill at noughts w n ≡ w
 unfolding fill

@@ -6,9 +6,10 @@ use mathlib.Core.Logic.{⊎_elim, ◌≢◌}
 use native.Mathlib.Omega.{arith}
 use native.Mathlib.Numerals.{add-one}
 use lib.ListN.{length, get_or}
+use Rattle.std.proofs.lemmas.Bool.{cases_lt}
 use Rattle.std.proofs.lemmas.List.{set-get_or}
 use Rattle.spec_bytes.specs.words.Words.{get_word, put_word, join_at, set_word}
-use Rattle.spec_bytes.proofs.words.Laws.{le_or_lt, get_in, put_in, put_out, put_length, get_put_same, get_put_other, put_again, put_swap}
+use Rattle.spec_bytes.proofs.words.Laws.{get_in, put_in, put_out, put_length, get_put_same, get_put_other, put_again, put_swap}
 use Rattle.btf_open_names.specs.name_classes.Classes.{fill}
 
 module _ (at : ℕ → ℕ) where
@@ -39,16 +40,16 @@ module _ (at : ℕ → ℕ) where
     unfolding fill
     get_fill g w h zero l m = absurd (omega arith)
     get_fill g w h (suc n) l m =
-        ⊎_elim (λ p. let e : h ≡ n = omega arith in rw e (get_put_same (fill at g w n) (at n) (g n) (rw (fill_length g w n, ← e) m))) (λ p. get_put_other (fill at g w n) (at n) (at h) (g n) (λ q. let e : h ≡ n = one h n q in omega arith) ∙ get_fill g w h n p m) (le_or_lt n h)
+        ⊎_elim (λ p. get_put_other (fill at g w n) (at n) (at h) (g n) (λ q. let e : h ≡ n = one h n q in omega arith) ∙ get_fill g w h n p m) (λ p. let e : h ≡ n = omega arith in rw e (get_put_same (fill at g w n) (at n) (g n) (rw (fill_length g w n, ← e) m))) (cases_lt h n)
 
     pub put_fill : (f g : ℕ → ℕ) (w : List ℕ) (h v n : ℕ) → h < n → v ≡ g h → ((j : ℕ) → j ≢ h → f j ≡ g j) → put_word (fill at f w n) (at h) v ≡ fill at g w n
     unfolding fill
     put_fill f g w h v zero l e o = absurd (omega arith)
     put_fill f g w h v (suc n) l e o =
         ⊎_elim
-        (λ p. let q : h ≡ n = omega arith in rw q (put_again (fill at f w n) (at n) (f n) v ∙ ap₂ (λ (u : List ℕ) (x : ℕ). put_word u (at n) x) (fill_same f g w n (λ j m. o j (omega arith))) (e ∙ ap g q)))
         (λ p. put_swap (fill at f w n) (at n) (at h) (f n) v (λ q. let d : h ≡ n = one h n q in omega arith) ∙ ap₂ (λ (u : List ℕ) (x : ℕ). put_word u (at n) x) (put_fill f g w h v n p e o) (o n (omega arith)))
-        (le_or_lt n h)
+        (λ p. let q : h ≡ n = omega arith in rw q (put_again (fill at f w n) (at n) (f n) v ∙ ap₂ (λ (u : List ℕ) (x : ℕ). put_word u (at n) x) (fill_same f g w n (λ j m. o j (omega arith))) (e ∙ ap g q)))
+        (cases_lt h n)
 
     pub fill_over : (f g : ℕ → ℕ) (w : List ℕ) (n : ℕ) → fill at g (fill at f w n) n ≡ fill at g w n
     unfolding fill
@@ -95,6 +96,6 @@ module _ (w : List ℕ) (bytes : (i : ℕ) → get_or w i 0 < 256) where
   pub put_own : (i : ℕ) → put_word w i (get_word w i) ≡ w
   put_own i =
       ⊎_elim
-      (λ l. put_out w i (get_word w i) l)
       (λ l. put_in w i (get_word w i) l ∙ ap (set_word w (i * 4)) (get_in w i l) ∙ set_own (i * 4))
-      (le_or_lt (length w / 4) i)
+      (λ l. put_out w i (get_word w i) l)
+      (cases_lt i (length w / 4))

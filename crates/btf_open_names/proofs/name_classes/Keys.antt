@@ -7,11 +7,11 @@ use mathlib.Core.Logic.{⊎_elim, ◌≢◌}
 use native.Mathlib.Omega.{arith}
 use lib.ListN.{length, get_or}
 use lib.Dec.{ltb}
-use Rattle.std.proofs.Common.{Option, None, Some}
+use Rattle.std.proofs.Common.{Option, None, Some, is_some}
 use Rattle.btf_open_names.specs.holders.Holders.{holders_in}
 use borrow.Author.Tests.{lt-ltb, le-ltb, ne_eqb}
+use Rattle.std.proofs.lemmas.Bool.{cases_lt}
 use Rattle.spec_bytes.specs.words.Words.{get_word}
-use Rattle.spec_bytes.proofs.words.Laws.{le_or_lt}
 use Rattle.spec_type_table.specs.declared.types.TypeTable.{TypeTable}
 use Rattle.spec_type_table.specs.Cells.{place_of, class_p, count_p}
 use Rattle.spec_type_table.specs.Records.{section_word, kind_of}
@@ -29,12 +29,12 @@ module _ (t f g : ℕ) where
   pub place_one : f < 16 → g < 8 → (i j : ℕ) → place_of t f g i ≡ place_of t f g j → i ≡ j
   place_one p q i j e =
       ⊎_elim
-      (λ a. ⊎_elim (λ b. omega (arith, place_enum t f g i a, place_enum t f g j b)) (λ b. omega (arith, place_enum t f g i a, place_type t f g j b)) (le_or_lt t j))
-      (λ a. ⊎_elim (λ b. omega (arith, place_type t f g i a, place_enum t f g j b)) (λ b. omega (arith, place_type t f g i a, place_type t f g j b)) (le_or_lt t j))
-      (le_or_lt t i)
+      (λ a. ⊎_elim (λ b. omega (arith, place_type t f g i a, place_type t f g j b)) (λ b. omega (arith, place_type t f g i a, place_enum t f g j b)) (cases_lt j t))
+      (λ a. ⊎_elim (λ b. omega (arith, place_enum t f g i a, place_type t f g j b)) (λ b. omega (arith, place_enum t f g i a, place_enum t f g j b)) (cases_lt j t))
+      (cases_lt i t)
 
   pub place_in : f < 16 → g < 8 → (e h : ℕ) → h < t + e → place_of t f g h < t * 16 + e * 8
-  place_in p q e h l = ⊎_elim (λ a. omega (arith, place_enum t f g h a)) (λ a. omega (arith, place_type t f g h a)) (le_or_lt t h)
+  place_in p q e h l = ⊎_elim (λ a. omega (arith, place_type t f g h a)) (λ a. omega (arith, place_enum t f g h a)) (cases_lt h t)
 
 -- word f or g of a holder, and word f' or g', are two
 abbrev Apart : (f g f' g' : ℕ) → Type 0
@@ -43,9 +43,9 @@ Apart f g f' g' = (f < 16) × (f' < 16) × (g < 8) × (g' < 8) × (f ≢ f') × 
 pub place_apart : (t f g f' g' : ℕ) → Apart f g f' g' → (i j : ℕ) → place_of t f g i ≢ place_of t f' g' j
 place_apart t f g f' g' p i j e =
     ⊎_elim
-    (λ a. ⊎_elim (λ b. omega (arith, place_enum t f g i a, place_enum t f' g' j b)) (λ b. omega (arith, place_enum t f g i a, place_type t f' g' j b)) (le_or_lt t j))
-    (λ a. ⊎_elim (λ b. omega (arith, place_type t f g i a, place_enum t f' g' j b)) (λ b. omega (arith, place_type t f g i a, place_type t f' g' j b)) (le_or_lt t j))
-    (le_or_lt t i)
+    (λ a. ⊎_elim (λ b. omega (arith, place_type t f g i a, place_type t f' g' j b)) (λ b. omega (arith, place_type t f g i a, place_enum t f' g' j b)) (cases_lt j t))
+    (λ a. ⊎_elim (λ b. omega (arith, place_enum t f g i a, place_type t f' g' j b)) (λ b. omega (arith, place_enum t f g i a, place_enum t f' g' j b)) (cases_lt j t))
+    (cases_lt i t)
 
 module _ (t : ℕ) where
   pub places : Places (class_p t) (bucket_p t) (link_p t)
@@ -99,9 +99,9 @@ module _ (k : ℕ) where
   unfolding space_of is_id_among
   space_4_7 l m =
       ⊎_elim
-      (λ a. ⊎_elim (λ b. let e : k ≡ 4 = omega arith in rw e) (λ b. let e : k ≡ 5 = omega arith in rw e) (le_or_lt k 4))
-      (λ a. ⊎_elim (λ b. let e : k ≡ 6 = omega arith in rw e) (λ b. let e : k ≡ 7 = omega arith in rw e) (le_or_lt k 6))
-      (le_or_lt k 5)
+      (λ a. ⊎_elim (λ b. let e : k ≡ 7 = omega arith in rw e) (λ b. let e : k ≡ 6 = omega arith in rw e) (cases_lt 6 k))
+      (λ a. ⊎_elim (λ b. let e : k ≡ 5 = omega arith in rw e) (λ b. let e : k ≡ 4 = omega arith in rw e) (cases_lt 4 k))
+      (cases_lt 5 k)
 
   pub space_else : (k ≡ 4 → ⊥) → (k ≡ 5 → ⊥) → (k ≡ 6 → ⊥) → (k ≡ 7 → ⊥) → (k ≡ 19 → ⊥) → (k ≡ 8 → ⊥) → 2 ≡ space_of k
   unfolding space_of is_id_among
@@ -242,14 +242,14 @@ module _ (b : TypeTable) (s : List ℕ) where
     unfolding table_classed
     too_short m l = rw (le-ltb (4294967295 - b.types) e m, table_classed, lt-ltb (length w / 4) (b.types * 16 + e * 8) l)
 
-    pub uncounted : None ≡ holders_in b.types e w → w ≡ table_classed b e s w
+    pub unfit : false ≡ is_some (holders_in b.types e w) → w ≡ table_classed b e s w
     unfolding table_classed holders_in
-    uncounted = go (ltb (4294967295 - b.types) e) (ltb (length w / 4) (b.types * 16 + e * 8))
+    unfit = go (ltb (4294967295 - b.types) e) (ltb (length w / 4) (b.types * 16 + e * 8))
       where
         all : List ℕ
         all = with_classes (key w) class bucket link (b.types + e) w
 
-        go : (p q : Bool) → ◌≡◌ {A = Option ℕ} None (elim p as (λ z. Option ℕ) [ true ↦ None | false ↦ elim q as (λ z. Option ℕ) [ true ↦ None | false ↦ Some (b.types + e) ] ])
+        go : (p q : Bool) → false ≡ is_some (elim p as (λ z. Option ℕ) [ true ↦ None | false ↦ elim q as (λ z. Option ℕ) [ true ↦ None | false ↦ Some (b.types + e) ] ])
             → w ≡ elim p as (λ z. List ℕ) [ true ↦ w | false ↦ elim q as (λ z. List ℕ) [ true ↦ w | false ↦ all ] ]
         go true q z = refl
         go false true z = refl

@@ -2,7 +2,7 @@
 use Prim.Native.Nat.{ℕ, zero, suc, zero-le, ◌+◌, ◌-◌, ◌/◌, ◌%◌, ◌<◌, ◌≤◌}
 use mathlib.Core.Path.{◌≡◌, refl, ap, ap₂, ◌∙◌, sym}
 use mathlib.Core.List.{List}
-use mathlib.Core.Bool.{Bool, true, false}
+use mathlib.Core.Bool.{Bool, true, false, true≢false}
 use mathlib.Core.Logic.{⊎_elim, ◌≢◌}
 use native.Mathlib.Omega.{arith}
 use native.Mathlib.Nat.{mod-lt}
@@ -10,8 +10,9 @@ use native.Mathlib.Numerals.{add-one}
 use lib.ListN.{length, get_or}
 use lib.Dec.{eqb}
 use borrow.Author.Tests.{eq-eqb, ne_eqb, eqb-true, eqb-false}
+use Rattle.std.proofs.lemmas.Bool.{cases_lt}
 use Rattle.spec_bytes.specs.words.Words.{get_word, put_word, pick}
-use Rattle.spec_bytes.proofs.words.Laws.{le_or_lt, get_put_other, put_swap}
+use Rattle.spec_bytes.proofs.words.Laws.{get_put_other, put_swap}
 use Rattle.btf_open_names.specs.name_classes.Same.{same_list}
 use Rattle.btf_open_names.proofs.name_classes.Names.{same_self, same_equal, same_from}
 use Rattle.btf_open_names.specs.name_classes.Classes.{least, class_of, fill, noughts, with_classes}
@@ -43,21 +44,15 @@ module _ (p : ℕ → Bool) where
   least_some c (suc h) l e =
       by (p (least p h)) _
       (λ q. rw (least_yes h q) q)
-      (λ q. ⊎_elim (λ m. let r : ◌≡◌ {A = Bool} true false = sym (least_some c h m e) ∙ q in cc) (λ m. let z : c ≡ suc h = omega arith in rw (least_no h q, ← z) e) (le_or_lt c h))
+      (λ q. ⊎_elim (λ m. let z : c ≡ suc h = omega arith in rw (least_no h q, ← z) e) (λ m. let r : ◌≡◌ {A = Bool} true false = sym (least_some c h m e) ∙ q in cc) (cases_lt h c))
 
   least_first : (c h : ℕ) → c ≤ h → p c ≡ true → least p h ≤ c
   unfolding least
   least_first c zero l e = zero-le
   least_first c (suc h) l e =
       by (p (least p h)) _
-      (λ q. ⊎_elim (λ m. omega (arith, least_yes h q, least_first c h m e)) (λ m. omega (arith, least_yes h q, least_le h)) (le_or_lt c h))
-      (λ q. ⊎_elim (λ m. let r : ◌≡◌ {A = Bool} true false = sym (least_some c h m e) ∙ q in absurd (no r)) (λ m. omega (arith, least_no h q)) (le_or_lt c h))
-    where
-      no : ◌≡◌ {A = Bool} true false → ⊥
-      no r = let z : ◌≡◌ {A = ℕ} 0 1 = cc in omega arith
-
-no : ◌≡◌ {A = Bool} true false → ⊥
-no r = let z : ◌≡◌ {A = ℕ} 0 1 = cc in omega arith
+      (λ q. ⊎_elim (λ m. omega (arith, least_yes h q, least_le h)) (λ m. omega (arith, least_yes h q, least_first c h m e)) (cases_lt h c))
+      (λ q. ⊎_elim (λ m. omega (arith, least_no h q)) (λ m. let r : ◌≡◌ {A = Bool} true false = sym (least_some c h m e) ∙ q in absurd (true≢false r)) (cases_lt h c))
 
 -- where a walk along the chain of bucket b, for holder h, stands: at holder l - 1, or at the end
 pub record Walk (key : ℕ → List ℕ) (bucket link : ℕ → ℕ) (h b : ℕ) (w : List ℕ) (l : ℕ) : Type 0 where
@@ -87,7 +82,7 @@ module _ (key : ℕ → List ℕ) where
       omega arith
 
   pub class_same : (c h : ℕ) → key c ≡ key h → class_of key c ≡ class_of key h
-  class_same c h e = ⊎_elim (λ l. class_below c h l e) (λ l. sym (class_below h c (omega arith) (sym e))) (le_or_lt c h)
+  class_same c h e = ⊎_elim (λ l. sym (class_below h c (omega arith) (sym e))) (λ l. class_below c h l e) (cases_lt h c)
 
   pub class_again : (h : ℕ) → class_of key (class_of key h) ≡ class_of key h
   class_again h = class_same (class_of key h) h (class_key h)
@@ -154,7 +149,7 @@ module _ (key : ℕ → List ℕ) where
     last_over j c (suc m) l e =
         by (stands key n j m) _
         (λ q. omega (arith, last_yes j m q))
-        (λ q. ⊎_elim (λ k. let d : c ≡ m = omega arith in let r : ◌≡◌ {A = Bool} true false = sym e ∙ ap (stands key n j) d ∙ q in absurd (no r)) (λ k. omega (arith, last_no j m q, last_over j c m k e)) (le_or_lt m c))
+        (λ q. ⊎_elim (λ k. omega (arith, last_no j m q, last_over j c m k e)) (λ k. let d : c ≡ m = omega arith in let r : ◌≡◌ {A = Bool} true false = sym e ∙ ap (stands key n j) d ∙ q in absurd (true≢false r)) (cases_lt c m))
 
     last_stands : (j m : ℕ) → (last_of key n j m ≡ 0 → ⊥) → stands key n j (last_of key n j m - 1) ≡ true
     unfolding last_of
@@ -319,7 +314,7 @@ module _ (key : ℕ → List ℕ) where
 
     module _ (l : ℕ) (k : Walk key bucket link h b w l) where
       pub walk_end : l ≡ 0 → h ≡ class_of key h
-      walk_end e = ⊎_elim (λ p. omega (arith, class_le h)) (λ p. absurd (omega (arith, k.ahead p))) (le_or_lt h (class_of key h))
+      walk_end e = ⊎_elim (λ p. absurd (omega (arith, k.ahead p))) (λ p. omega (arith, class_le h)) (cases_lt (class_of key h) h)
 
       module _ (z : l ≡ 0 → ⊥) where
         way : get_word w (link (l - 1)) ≡ last_of key k.finds.n b (l - 1)
@@ -340,7 +335,7 @@ module _ (key : ℕ → List ℕ) where
         pub walk_turn : (t : Bool) (m : ℕ) → t ≡ same_list (key (l - 1)) (key h) → t ≡ false → m ≡ get_word w (link (l - 1)) → Walk key bucket link h b w m
         walk_turn t m e y q =
             walk_from k.finds (l - 1) m (omega (arith, k.under)) (q ∙ way)
-            (λ r. let o : class_of key h ≢ l - 1 = λ v. no (same_from (key (l - 1)) (key h) (ap key (sym v) ∙ class_key h) ∙ sym e ∙ y) in omega (arith, k.ahead r))
+            (λ r. let o : class_of key h ≢ l - 1 = λ v. true≢false (same_from (key (l - 1)) (key h) (ap key (sym v) ∙ class_key h) ∙ sym e ∙ y) in omega (arith, k.ahead r))
 
 -- ---- a word outside stays, at every turn
 pub state_else : (key : ℕ → List ℕ) (class bucket link : ℕ → ℕ) (n k i : ℕ) (w : List ℕ) → ((h : ℕ) → i ≢ class h) → ((h : ℕ) → i ≢ bucket h) → ((h : ℕ) → i ≢ link h) → get_word (state_of key class bucket link n k w) i ≡ get_word w i

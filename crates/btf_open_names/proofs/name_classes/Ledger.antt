@@ -5,8 +5,8 @@ use mathlib.Core.List.{List, []}
 use mathlib.Core.Logic.{⊎_elim}
 use native.Mathlib.Omega.{arith}
 use lib.ListN.{length}
+use Rattle.std.proofs.lemmas.Bool.{cases_lt}
 use Rattle.spec_bytes.specs.words.Words.{get_word}
-use Rattle.spec_bytes.proofs.words.Laws.{le_or_lt}
 use Rattle.spec_type_table.specs.declared.types.TypeTable.{TypeTable}
 use Rattle.spec_type_table.specs.Cells.{place_of, class_p, count_p}
 use Rattle.btf_open_names.specs.name_classes.Classes.{times_of, bucket_p, link_p, key_in, with_classes, table_classed}
@@ -49,9 +49,9 @@ module _ (b : TypeTable) (e : ℕ) (s w : List ℕ) where
   either : (P : List ℕ → Type 0) → P w → P Filled → P (table_classed b e s w)
   either P p q =
       ⊎_elim
-      (λ l. ⊎_elim (λ m. rw (← long_enough b s e w n refl l m) q) (λ m. rw (← too_short b s e w l m) p) (le_or_lt (b.types * 16 + e * 8) (length w / 4)))
       (λ l. rw (← too_many b s e w l) p)
-      (le_or_lt e (4294967295 - b.types))
+      (λ l. ⊎_elim (λ m. rw (← too_short b s e w l m) p) (λ m. rw (← long_enough b s e w n refl l m) q) (cases_lt (length w / 4) (b.types * 16 + e * 8)))
+      (cases_lt (4294967295 - b.types) e)
 
   inside : (f g : ℕ) → f < 16 → g < 8 → Room b e w → (h : ℕ) → h < n → place_of b.types f g h < length w / 4
   inside f g p q r h l = omega (arith, r.words, place_in b.types f g p q e h l)

@@ -7,8 +7,9 @@ use mathlib.Core.Logic.{⊎_elim, ◌≢◌}
 use native.Mathlib.Omega.{arith}
 use lib.Dec.{ltb}
 use borrow.Author.Tests.{lt-ltb, le-ltb, lt-leb, le-leb}
+use Rattle.std.proofs.lemmas.Bool.{cases_lt}
 use Rattle.spec_bytes.specs.words.Words.{get_word, one_more, pick}
-use Rattle.spec_bytes.proofs.words.Laws.{le_or_lt}
+use Rattle.spec_bytes.proofs.words.Laws.{more_is, more_stuck}
 use Rattle.spec_type_table.specs.Cells.{place_of, class_p, count_p, count_after, count_raised}
 use Rattle.spec_type_table.specs.Numbers.{below, capped, number_over, head_p, next_p, taken_p, numbers_from, taken_at, number_at}
 use Rattle.spec_type_table.proofs.Laws.{place_type, place_enum}
@@ -16,14 +17,6 @@ use Rattle.spec_type_table.proofs.Frame.{counted_other}
 use Rattle.btf_open_names.specs.numbers.Lists.{one_if}
 
 -- ---- add_if
-more_is : (n : ℕ) → n < 4294967295 → one_more n ≡ n + 1
-unfolding one_more
-more_is n h = ap (λ (t : Bool). pick t (n + 1) n) (lt-ltb n 4294967295 h)
-
-more_stuck : (n : ℕ) → 4294967295 ≤ n → one_more n ≡ n
-unfolding one_more
-more_stuck n h = ap (λ (t : Bool). pick t (n + 1) n) (le-ltb n 4294967295 h)
-
 module _ (c t n : ℕ) where
   pub if_above : n < t → c ≡ one_if c t n
   unfolding one_if
@@ -40,7 +33,7 @@ module _ (c t n : ℕ) where
   if_stuck h l = sym (if_below h ∙ more_stuck c l)
 
   pub if_at_most : t ≤ n → (r : ℕ) → (c < 4294967295 → r ≡ c + 1) → (4294967295 ≤ c → r ≡ c) → r ≡ one_if c t n
-  if_at_most h r low high = ⊎_elim (λ l. high l ∙ if_stuck h l) (λ l. low l ∙ if_more h l) (le_or_lt 4294967295 c)
+  if_at_most h r low high = ⊎_elim (λ l. low l ∙ if_more h l) (λ l. high l ∙ if_stuck h l) (cases_lt c 4294967295)
 
 -- ---- count_below
 module _ (types : ℕ) (w : List ℕ) (last x : ℕ) where
@@ -61,12 +54,12 @@ Walked types w class n c last x = (f : ℕ) × (4294967296 ≤ f + last) × (c �
 below_cons : (c t : ℕ) (ts : List ℕ) (n : ℕ) → c < 4294967295 → c + below (t ∷ ts) n ≡ one_if c t n + below ts n
 unfolding below
 below_cons c t ts n l = ⊎_elim
-    (λ h. ap (λ (b : Bool). c + elim b as (λ z. ℕ) [ true ↦ suc (below ts n) | false ↦ below ts n ]) (le-leb t n h) ∙ omega (arith, if_more c t n h l))
     (λ h. ap (λ (b : Bool). c + elim b as (λ z. ℕ) [ true ↦ suc (below ts n) | false ↦ below ts n ]) (lt-leb t n h) ∙ ap (λ (y : ℕ). y + below ts n) (if_above c t n h))
-    (le_or_lt t n)
+    (λ h. ap (λ (b : Bool). c + elim b as (λ z. ℕ) [ true ↦ suc (below ts n) | false ↦ below ts n ]) (le-leb t n h) ∙ omega (arith, if_more c t n h l))
+    (cases_lt n t)
 
 if_least : (c t n : ℕ) → c < 4294967295 → one_if c t n ≤ c + 1
-if_least c t n l = ⊎_elim (λ h. omega (arith, if_more c t n h l)) (λ h. omega (arith, if_above c t n h)) (le_or_lt t n)
+if_least c t n l = ⊎_elim (λ h. omega (arith, if_above c t n h)) (λ h. omega (arith, if_more c t n h l)) (cases_lt n t)
 
 module _ (types : ℕ) (w : List ℕ) (class n : ℕ) where
   pub walk_start : (x : ℕ) → x ≡ get_word w (head_p types class) → Walked types w class n 0 0 x
@@ -102,17 +95,17 @@ pub capped_is : (n r : ℕ) → (n < 4294967295 → r ≡ n) → (4294967295 ≤
 unfolding capped
 capped_is n r low high =
     ⊎_elim
-    (λ h. high h ∙ sym (ap (λ (t : Bool). pick t n 4294967295) (le-ltb n 4294967295 h)))
     (λ h. low h ∙ sym (ap (λ (t : Bool). pick t n 4294967295) (lt-ltb n 4294967295 h)))
-    (le_or_lt 4294967295 n)
+    (λ h. high h ∙ sym (ap (λ (t : Bool). pick t n 4294967295) (le-ltb n 4294967295 h)))
+    (cases_lt n 4294967295)
 
 -- ---- counting leaves the lists alone
 apart : (t f g f' g' : ℕ) → (f < 16) × (f' < 16) × (g < 8) × (g' < 8) × (f ≢ f') × (g ≢ g') → (i j : ℕ) → place_of t f g i ≢ place_of t f' g' j
 apart t f g f' g' p i j e =
     ⊎_elim
-    (λ a. ⊎_elim (λ b. omega (arith, place_enum t f g i a, place_enum t f' g' j b)) (λ b. omega (arith, place_enum t f g i a, place_type t f' g' j b)) (le_or_lt t j))
-    (λ a. ⊎_elim (λ b. omega (arith, place_type t f g i a, place_enum t f' g' j b)) (λ b. omega (arith, place_type t f g i a, place_type t f' g' j b)) (le_or_lt t j))
-    (le_or_lt t i)
+    (λ a. ⊎_elim (λ b. omega (arith, place_type t f g i a, place_type t f' g' j b)) (λ b. omega (arith, place_type t f g i a, place_enum t f' g' j b)) (cases_lt j t))
+    (λ a. ⊎_elim (λ b. omega (arith, place_enum t f g i a, place_type t f' g' j b)) (λ b. omega (arith, place_enum t f g i a, place_enum t f' g' j b)) (cases_lt j t))
+    (cases_lt i t)
 
 -- two works with the same words of lists
 module _ (types : ℕ) (u w : List ℕ) (en : (x : ℕ) → get_word u (next_p types x) ≡ get_word w (next_p types x)) (et : (x : ℕ) → get_word u (taken_p types x) ≡ get_word w (taken_p types x)) where

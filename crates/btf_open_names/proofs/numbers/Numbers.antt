@@ -11,8 +11,8 @@ use native.Mathlib.Decide.{ℕ_discrete}
 use lib.ListN.{length}
 use lib.Dec.{leb}
 use borrow.Author.Tests.{leb-true, leb-false, lt-ltb, le-ltb}
+use Rattle.std.proofs.lemmas.Bool.{cases_lt}
 use Rattle.spec_bytes.specs.words.Words.{pick}
-use Rattle.spec_bytes.proofs.words.Laws.{le_or_lt}
 use Rattle.spec_type_table.specs.Numbers.{below, capped, settled, number_over}
 use Rattle.btf_open_names.specs.numbers.Lists.{Distinct, Suffixes}
 
@@ -135,20 +135,20 @@ module _ (ts : List ℕ) (k : ℕ) where
   step_up : (a b : ℕ) → a ≤ b → step a ≤ step b
   step_up a b h = ⊎_elim
       (λ l. ⊎_elim
-      (λ m. omega (arith, cap_high (k + below ts a) l, cap_high (k + below ts b) m))
-      (λ m. absurd (omega (arith, mono ts a b h)))
-      (le_or_lt 4294967295 (k + below ts b)))
-      (λ l. ⊎_elim
-      (λ m. omega (arith, cap_low (k + below ts a) l, cap_high (k + below ts b) m))
       (λ m. omega (arith, mono ts a b h, cap_low (k + below ts a) l, cap_low (k + below ts b) m))
-      (le_or_lt 4294967295 (k + below ts b)))
-      (le_or_lt 4294967295 (k + below ts a))
+      (λ m. omega (arith, cap_low (k + below ts a) l, cap_high (k + below ts b) m))
+      (cases_lt (k + below ts b) 4294967295))
+      (λ l. ⊎_elim
+      (λ m. absurd (omega (arith, mono ts a b h)))
+      (λ m. omega (arith, cap_high (k + below ts a) l, cap_high (k + below ts b) m))
+      (cases_lt (k + below ts b) 4294967295))
+      (cases_lt (k + below ts a) 4294967295)
 
   step_limit : (a : ℕ) → (step a ≤ 4294967295) × (step a ≤ k + below ts a)
   step_limit a = ⊎_elim
-      (λ l. (omega (arith, cap_high (k + below ts a) l), omega (arith, cap_high (k + below ts a) l)))
       (λ l. (omega (arith, cap_low (k + below ts a) l), omega (arith, cap_low (k + below ts a) l)))
-      (le_or_lt 4294967295 (k + below ts a))
+      (λ l. (omega (arith, cap_high (k + below ts a) l), omega (arith, cap_high (k + below ts a) l)))
+      (cases_lt (k + below ts a) 4294967295)
 
   goes : (turns n : ℕ) → n ≤ step n → (step n ≡ n) ⊎ (length ts + 1 ≤ turns + below ts n) → ((m : ℕ) → k + below ts m ≤ m → n ≤ m) → k ≤ n → n ≤ 4294967295 → Settles (settled ts k turns n)
   unfolding settled
@@ -161,7 +161,7 @@ module _ (ts : List ℕ) (k : ℕ) where
       (λ m h. ⊎_elim
       (λ l. omega (arith, (step_limit n).1, mono ts n m (least m h)))
       (λ l. omega (arith, (step_limit n).1, mono ts n m (least m h)))
-      (le_or_lt n m))
+      (cases_lt m n))
       (omega arith)
       (step_limit n).0
     where
@@ -180,24 +180,24 @@ module _ (ts : List ℕ) (k : ℕ) where
   settles h = goes (length ts) k up first (λ m l. omega arith) (omega arith) h
     where
       up : k ≤ step k
-      up = ⊎_elim (λ l. omega (arith, cap_high (k + below ts k) l)) (λ l. omega (arith, cap_low (k + below ts k) l)) (le_or_lt 4294967295 (k + below ts k))
+      up = ⊎_elim (λ l. omega (arith, cap_low (k + below ts k) l)) (λ l. omega (arith, cap_high (k + below ts k) l)) (cases_lt (k + below ts k) 4294967295)
 
       first : (step k ≡ k) ⊎ (length ts + 1 ≤ length ts + below ts k)
       first = go (below ts k) refl
         where
           go : (c : ℕ) → below ts k ≡ c → (step k ≡ k) ⊎ (length ts + 1 ≤ length ts + below ts k)
           go zero e = inl (⊎_elim
-              (λ l. omega (arith, cap_high (k + below ts k) l))
               (λ l. omega (arith, cap_low (k + below ts k) l))
-              (le_or_lt 4294967295 (k + below ts k)))
+              (λ l. omega (arith, cap_high (k + below ts k) l))
+              (cases_lt (k + below ts k) 4294967295))
           go (suc c) e = inr (omega arith)
 
   -- below the cap it has k free numbers up to it, and is free
   pub exact : (n : ℕ) → Settles n → n < 4294967295 → k + below ts n ≡ n
   exact n s l = ⊎_elim
-      (λ m. absurd (omega (arith, cap_high (k + below ts n) m, s.fixed)))
       (λ m. sym (cap_low (k + below ts n) m) ∙ s.fixed)
-      (le_or_lt 4294967295 (k + below ts n))
+      (λ m. absurd (omega (arith, cap_high (k + below ts n) m, s.fixed)))
+      (cases_lt (k + below ts n) 4294967295)
 
   pub free : 1 ≤ k → (n : ℕ) → Settles n → n < 4294967295 → Memᴰ n ts → ⊥
   free h zero s l m = omega (arith, s.start)
@@ -238,22 +238,22 @@ module _ (ts : List ℕ) (D : Distinct ts) (S : Suffixes ts) (k : ℕ) (two : 2 
       two' = omega (arith, out, few)
 
       less : suc (suc q) - below ts (suc (suc q)) < k
-      less = ⊎_elim (λ m. absurd (omega (arith, out, few, l, s.least (suc (suc q)) (omega (arith, out, few))))) (λ m. m) (le_or_lt k (suc (suc q) - below ts (suc (suc q))))
+      less = ⊎_elim (λ m. m) (λ m. absurd (omega (arith, out, few, l, s.least (suc (suc q)) (omega (arith, out, few))))) (cases_lt (suc (suc q) - below ts (suc (suc q))) k)
 
       s' : Settles ts (suc (suc q) - below ts (suc (suc q))) (number_over ts (suc (suc q) - below ts (suc (suc q))))
       s' = settles ts (suc (suc q) - below ts (suc (suc q))) (omega (arith, less, limit))
 
       same : number_over ts (suc (suc q) - below ts (suc (suc q))) ≡ suc (suc q)
       same = ⊎_elim
-          (λ m. omega (arith, s'.least (suc (suc q)) (omega (arith, out, few))))
           (λ m. absurd (omega (arith, out, few, s.limit, exact ts (suc (suc q) - below ts (suc (suc q))) (number_over ts (suc (suc q) - below ts (suc (suc q)))) s' (omega (arith, s.limit)), up_to ts D (number_over ts (suc (suc q) - below ts (suc (suc q)))) (suc q) (omega arith))))
-          (le_or_lt (suc (suc q)) (number_over ts (suc (suc q) - below ts (suc (suc q)))))
+          (λ m. omega (arith, s'.least (suc (suc q)) (omega (arith, out, few))))
+          (cases_lt (number_over ts (suc (suc q) - below ts (suc (suc q)))) (suc (suc q)))
 
   pub ends : (p : ℕ) → k ≤ p → p ≤ 4294967295 → ((m : ℕ) → k ≤ m → m < p → t m ≡ true) → (t p ≡ false) ⊎ (4294967295 ≤ p) → p ≡ number_over ts k
   ends p h l all stop = ⊎_elim
-      (λ m. ⊎_elim (λ m'. omega arith) (λ m'. absurd (early m')) (le_or_lt (number_over ts k) p))
       (λ m. absurd (late m))
-      (le_or_lt p (number_over ts k))
+      (λ m. ⊎_elim (λ m'. absurd (early m')) (λ m'. omega arith) (cases_lt p (number_over ts k)))
+      (cases_lt (number_over ts k) p)
     where
       early : p < number_over ts k → ⊥
       early m = ⊎_elim
@@ -284,7 +284,7 @@ module _ (ts : List ℕ) (k : ℕ) where
 
   pub nears_first : k ≤ 4294967295 → Nears k
   nears_first h = record {
-    up = ⊎_elim (λ l. omega (arith, cap_high (k + below ts k) l)) (λ l. omega (arith, cap_low (k + below ts k) l)) (le_or_lt 4294967295 (k + below ts k));
+    up = ⊎_elim (λ l. omega (arith, cap_low (k + below ts k) l)) (λ l. omega (arith, cap_high (k + below ts k) l)) (cases_lt (k + below ts k) 4294967295);
     least = λ m l. omega arith;
     start = omega arith;
     limit = h;
@@ -299,7 +299,7 @@ module _ (ts : List ℕ) (k : ℕ) where
   })
 
   at_most : (n m : ℕ) → Settles ts k n → Settles ts k m → n ≤ m
-  at_most n m s t = ⊎_elim (λ l. omega (arith, s.limit)) (λ l. s.least m (omega (arith, exact ts k m t l))) (le_or_lt 4294967295 m)
+  at_most n m s t = ⊎_elim (λ l. s.least m (omega (arith, exact ts k m t l))) (λ l. omega (arith, s.limit)) (cases_lt m 4294967295)
 
   pub nears_end : (n m : ℕ) → m ≡ capped (k + below ts n) → m ≤ n → Nears n → n ≡ number_over ts k
   nears_end n m e l s =

@@ -4,10 +4,10 @@ use mathlib.Core.Path.{◌≡◌, refl, ap, ◌∙◌, sym}
 use mathlib.Core.List.{List, [], ◌∷◌}
 use mathlib.Core.Bool.{Bool, true, false}
 use mathlib.Core.Logic.{⊎_elim}
-use Rattle.spec_bytes.proofs.words.Laws.{le_or_lt}
 use native.Mathlib.Omega.{arith}
 use lib.Dec.{leb, eqb}
 use borrow.Author.Tests.{le-leb, lt-leb}
+use Rattle.std.proofs.lemmas.Bool.{cases_lt}
 use Rattle.std.proofs.Common.{Option, None, Some}
 use Rattle.spec_type_table.specs.Names.{name_at}
 use Rattle.btf_open_names.specs.declared.keys.keys.Key.{Key}
@@ -21,6 +21,7 @@ use Rattle.btf_open_causes.proofs.references.First.{or_else, first_from}
 use Rattle.btf_open_names.proofs.keys.Spaces.{spaced, numbers_other}
 use Rattle.btf_open_names.proofs.filled_work.Holders.{keys_apart, keys_some}
 use Rattle.btf_open_names.proofs.suffixes.Found.{two_zero}
+use Rattle.btf_open_names.proofs.filled_work.Bytes.{on_none}
 
 -- ---- key_suffix
 module _ (s : List ℕ) (o : Option Key) (y : Key) where
@@ -53,13 +54,13 @@ module _ (c m : ℕ) where
       ∙ sym (ap (λ (t : Bool). elim t as (λ z. Option Base) [ true ↦ Some (record { holder = c; number = m }) | false ↦ None ]) (le-leb 2 m (omega (arith, e))))
 
   pub with_not : None ≡ base_with c m → m < 2
-  with_not e = ⊎_elim (λ l. let q : None ≡ Some (record { holder = c; number = m }) = e ∙ sym (with_some m refl l) in absurd (cc)) (λ l. l) (le_or_lt 2 m)
+  with_not e = ⊎_elim (λ l. l) (λ l. let q : None ≡ Some (record { holder = c; number = m }) = e ∙ sym (with_some m refl l) in absurd (cc)) (cases_lt m 2)
 
   pub with_is : (o : Base) → Some o ≡ base_with c m → (o ≡ record { holder = c; number = m }) × (2 ≤ m)
   with_is o e = ⊎_elim
-      (λ l. let q : Some o ≡ Some (record { holder = c; number = m }) = e ∙ sym (with_some m refl l) in let f : o ≡ record { holder = c; number = m } = cc in (f, l))
       (λ l. let q : Some o ≡ None = e ∙ sym (with_none l) in absurd (cc))
-      (le_or_lt 2 m)
+      (λ l. let q : Some o ≡ Some (record { holder = c; number = m }) = e ∙ sym (with_some m refl l) in let f : o ≡ record { holder = c; number = m } = cc in (f, l))
+      (cases_lt m 2)
 
 -- ---- the base
 module _ (key : ℕ → List ℕ) (h : ℕ) where
@@ -91,11 +92,6 @@ module _ (key : ℕ → List ℕ) (h : ℕ) where
   nothing_from z (suc f) c =
       nothing_from z f (suc c)
       ∙ sym (ap (λ (t : Bool). elim t as (λ z. ℕ) [ true ↦ c | false ↦ base_from key h f (suc c) ]) (lt-leb 2 (suffix_on (key c) (key h)) (omega (arith, z c))))
-
-on_none : (x : List ℕ) → suffix_on x [] ≡ 0
-unfolding suffix_on after_underscores
-on_none [] = refl
-on_none (a ∷ x) = refl
 
 on_nameless : (x : List ℕ) → suffix_on x (2 ∷ []) ≡ 0
 unfolding suffix_on after_underscores

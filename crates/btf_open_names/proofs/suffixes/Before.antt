@@ -9,12 +9,12 @@ use native.Mathlib.Nat.{add-zero}
 use lib.ListN.{length, get_or, take, drop}
 use lib.Dec.{leb, eqb}
 use borrow.Author.Tests.{le-leb, lt-leb, eqb-true}
-use Rattle.spec_bytes.proofs.words.Laws.{le_or_lt}
+use Rattle.std.proofs.lemmas.Bool.{cases_lt}
 use Rattle.spec_type_table.specs.Names.{up_to_zero, name_at}
+use Rattle.spec_type_table.proofs.NameLaws.{name_more, name_zero, name_end}
 use Rattle.btf_open_names.specs.name_classes.Table.{step_of, hash_from}
-use Rattle.btf_open_names.proofs.name_classes.Names.{name_end, name_zero, name_more}
 use Rattle.btf_open_names.specs.filled_work.Takers.{digit_after, numeral_from, after_underscores, suffix_in, suffix_on, any_suffix}
-use Rattle.btf_open_names.proofs.filled_work.Bytes.{digit_high}
+use Rattle.btf_open_names.proofs.filled_work.Bytes.{digit_high, under_other}
 use Rattle.btf_open_names.specs.suffixes.Before.{base_len, hash_before}
 
 -- ---- base_len, turn by turn
@@ -112,19 +112,11 @@ digit_more acc d l h = (λ q. no (sym (digit_high acc d (omega (arith, q)) (omeg
         none zero q r = omega arith
         none (suc u) q r = omega arith
 
-not_under : (n d : ℕ) (l : List ℕ) → (d ≡ 95 → ⊥) → after_underscores (suc n) (d ∷ l) ≡ 0
-unfolding after_underscores
-not_under n d l h = go (eqb d 95) refl
-  where
-    go : (t : Bool) → eqb d 95 ≡ t → when t (after_underscores n l) ≡ 0
-    go true e = absurd (h (eqb-true d 95 e))
-    go false e = refl
-
 digits_on : (acc : ℕ) (x l : List ℕ) → 1 ≤ numeral_from acc l → suffix_on x l ≡ 0
 unfolding suffix_on after_underscores
 digits_on acc [] [] h = refl
 digits_on acc (a ∷ x) [] h = refl
-digits_on acc [] (d ∷ l) h = not_under 2 d l (digit_more acc d l h).0
+digits_on acc [] (d ∷ l) h = under_other 2 d l (digit_more acc d l h).0
 digits_on acc (a ∷ x) (d ∷ l) h = when_zero (eqb a d) (suffix_on x l) (digits_on (digit_after acc d) x l (digit_more acc d l h).1)
 
 -- fewer underscores stand before the number
@@ -132,7 +124,7 @@ more_under : (n m : ℕ) (l : List ℕ) → n < m → 1 ≤ after_underscores n 
 unfolding after_underscores
 more_under n zero l q h = absurd (omega arith)
 more_under n (suc m) [] q h = refl
-more_under zero (suc m) (d ∷ l) q h = not_under m d l (digit_more 0 d l h).0
+more_under zero (suc m) (d ∷ l) q h = under_other m d l (digit_more 0 d l h).0
 more_under (suc n) (suc m) (c ∷ l) q h = when_zero (eqb c 95) (after_underscores m l) (more_under n m l (omega arith) (when_some (eqb c 95) (after_underscores n l) h).1)
 
 under_on : (n : ℕ) (x l : List ℕ) → n ≤ 2 → 1 ≤ after_underscores n l → suffix_on x l ≡ 0
@@ -145,9 +137,9 @@ under_on (suc n) (a ∷ x) (c ∷ l) q h = when_zero (eqb a c) (suffix_on x l) (
 one_place : (c : ℕ) (x y : List ℕ) → 2 ≤ suffix_on x y → suffix_in (c ∷ y) ≡ 0
 unfolding after_underscores
 one_place c x y h =
-    ⊎_elim (λ l. let z : when (eqb c 95) (after_underscores 2 y) ≡ 0 = omega arith in z)
-    (λ l. absurd (omega (arith, under_on 2 x y (omega arith) (when_some (eqb c 95) (after_underscores 2 y) l).1)))
-    (le_or_lt (when (eqb c 95) (after_underscores 2 y)) 0)
+    ⊎_elim (λ l. absurd (omega (arith, under_on 2 x y (omega arith) (when_some (eqb c 95) (after_underscores 2 y) l).1)))
+    (λ l. let z : when (eqb c 95) (after_underscores 2 y) ≡ 0 = omega arith in z)
+    (cases_lt 0 (when (eqb c 95) (after_underscores 2 y)))
 
 -- ---- the base's hash
 pub before_is : (acc : ℕ) (x y : List ℕ) → 2 ≤ suffix_on x y → hash_from acc x ≡ hash_before acc y

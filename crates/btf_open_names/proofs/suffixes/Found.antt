@@ -6,8 +6,8 @@ use mathlib.Core.Logic.{⊎_elim}
 use native.Mathlib.Omega.{arith}
 use lib.Dec.{leb}
 use borrow.Author.Tests.{le-leb, lt-leb}
+use Rattle.std.proofs.lemmas.Bool.{cases_lt}
 use Rattle.std.proofs.Common.{Option, None, Some, is_some}
-use Rattle.spec_bytes.proofs.words.Laws.{le_or_lt}
 use Rattle.btf_open_names.specs.suffixes.Found.{unless_zero, from_two}
 
 -- ---- 0 is none
@@ -43,17 +43,17 @@ unfolding from_two
 two_some n l = sym (ap (λ (t : Bool). elim t as (λ z. Option ℕ) [ true ↦ Some n | false ↦ None ]) (le-leb 2 n l))
 
 pub none_below : (n : ℕ) → None ≡ from_two n → n < 2
-none_below n e = ⊎_elim (λ l. let q : None ≡ Some n = e ∙ sym (two_some n l) in absurd (cc)) (λ l. l) (le_or_lt 2 n)
+none_below n e = ⊎_elim (λ l. l) (λ l. let q : None ≡ Some n = e ∙ sym (two_some n l) in absurd (cc)) (cases_lt n 2)
 
 pub some_from : (n v : ℕ) → Some v ≡ from_two n → (v ≡ n) × (2 ≤ v)
-some_from n v e = ⊎_elim (λ l. let q : Some v ≡ Some n = e ∙ sym (two_some n l) in let f : v ≡ n = cc in (f, omega arith)) (λ l. let q : Some v ≡ None = e ∙ sym (two_none n l) in absurd (cc)) (le_or_lt 2 n)
+some_from n v e = ⊎_elim (λ l. let q : Some v ≡ None = e ∙ sym (two_none n l) in absurd (cc)) (λ l. let q : Some v ≡ Some n = e ∙ sym (two_some n l) in let f : v ≡ n = cc in (f, omega arith)) (cases_lt n 2)
 
 module _ (n : ℕ) (o : Option ℕ) (e : o ≡ from_two n) (b : Bool) (t : b ≡ is_some o) where
   pub is_found : b ≡ true → 2 ≤ n
-  is_found z = ⊎_elim (λ l. l) (λ l. let q : is_some o ≡ false = ap is_some (e ∙ sym (two_none n l)) in absurd (cc)) (le_or_lt 2 n)
+  is_found z = ⊎_elim (λ l. let q : is_some o ≡ false = ap is_some (e ∙ sym (two_none n l)) in absurd (cc)) (λ l. l) (cases_lt n 2)
 
   pub not_found : b ≡ false → n < 2
-  not_found z = ⊎_elim (λ l. let q : is_some o ≡ true = ap is_some (e ∙ sym (two_some n l)) in absurd (cc)) (λ l. l) (le_or_lt 2 n)
+  not_found z = ⊎_elim (λ l. l) (λ l. let q : is_some o ≡ true = ap is_some (e ∙ sym (two_some n l)) in absurd (cc)) (cases_lt n 2)
 
 pub found_by : (n : ℕ) → is_some (from_two n) ≡ leb 2 n
 unfolding from_two

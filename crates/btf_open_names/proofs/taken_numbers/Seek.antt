@@ -2,15 +2,15 @@
 use Prim.Native.Nat.{ℕ, zero, suc, ◌+◌, ◌-◌, ◌%◌, ◌≤◌, ◌<◌}
 use mathlib.Core.Path.{◌≡◌, refl, ap, ap₂, ◌∙◌, sym}
 use mathlib.Core.List.{List, [], ◌∷◌}
-use mathlib.Core.Bool.{Bool, true, false}
+use mathlib.Core.Bool.{Bool, true, false, true≢false}
 use mathlib.Core.Logic.{⊎_elim, ◌≢◌}
 use native.Mathlib.Omega.{arith}
 use native.Mathlib.Nat.{mod-lt}
 use native.Mathlib.Numerals.{add-one}
 use lib.Dec.{eqb}
 use borrow.Author.Tests.{ne_eqb, lt-leb}
+use Rattle.std.proofs.lemmas.Bool.{cases_lt}
 use Rattle.spec_bytes.specs.words.Words.{get_word, pick}
-use Rattle.spec_bytes.proofs.words.Laws.{le_or_lt}
 use Rattle.spec_type_table.specs.declared.types.TypeTable.{TypeTable}
 use Rattle.spec_type_table.specs.Names.{name_at}
 use Rattle.btf_open_names.specs.name_classes.Classes.{record_p, space_at, name_of, key_of, key_in}
@@ -21,9 +21,6 @@ use Rattle.btf_open_names.specs.suffixes.Before.{hash_before}
 use Rattle.btf_open_names.proofs.suffixes.Before.{before_is}
 use Rattle.btf_open_names.specs.hash_table.Hashed.{first_p, later_p, space_in, falls, first_from, first_of, Table}
 use Rattle.btf_open_names.proofs.hash_table.Laws.{falls_in, falls_out, later_is}
-
-no : ◌≡◌ {A = Bool} true false → ⊥
-no r = let z : ◌≡◌ {A = ℕ} 0 1 = cc in omega arith
 
 -- ---- a base stands in the bucket of what is before the suffix
 key_hash : (s : List ℕ) (x a : ℕ) → x ≢ 2 → hash_key (key_of s x a) ≡ hash_from x (name_at s a)
@@ -42,7 +39,7 @@ module _ (key : ℕ → List ℕ) (n h : ℕ) (s : List ℕ) (y d : ℕ) (eh : k
   base_falls : (c x a : ℕ) → key_of s x a ≡ key c → 2 ≤ suffix_on (key c) (key h) → falls key n (r % n) c ≡ true
   base_falls c x a ec g =
       let e : suffix_on (key_of s x a) (key_of s y d) ≡ suffix_on (key c) (key h) = ap₂ suffix_on ec eh in
-      let same : x ≡ y = ⊎_elim (λ l. ⊎_elim (λ m. omega arith) (λ m. absurd (omega (arith, e, keys_apart s x a y d (λ q. omega arith)))) (le_or_lt y x)) (λ l. absurd (omega (arith, e, keys_apart s x a y d (λ q. omega arith)))) (le_or_lt x y) in
+      let same : x ≡ y = ⊎_elim (λ l. absurd (omega (arith, e, keys_apart s x a y d (λ q. omega arith)))) (λ l. ⊎_elim (λ m. absurd (omega (arith, e, keys_apart s x a y d (λ q. omega arith)))) (λ m. omega arith) (cases_lt x y)) (cases_lt y x) in
       let some : x ≢ 2 = λ q. omega (arith, e, keys_none s x a y d same q) in
       let names : 2 ≤ suffix_on (name_at s a) (name_at s d) = omega (arith, e, keys_some s x a y d (suffix_on (name_at s a) (name_at s d)) same some refl) in
       falls_in key n (r % n) c
@@ -88,7 +85,7 @@ module _ (key : ℕ → List ℕ) (h n j : ℕ) where
               there = λ z. ap (falls key n j) q ∙ t;
             }
         go on false t q =
-            on (inv ∙ skip f k (⊎_elim (λ g. absurd (no (sym (fall k g) ∙ t))) (λ g. g) (le_or_lt 2 (suffix_on (key k) (key h))))) q
+            on (inv ∙ skip f k (⊎_elim (λ g. g) (λ g. absurd (true≢false (sym (fall k g) ∙ t))) (cases_lt (suffix_on (key k) (key h)) 2))) q
 
 -- ---- base_in, turn by turn
 module _ (b : TypeTable) (s w : List ℕ) (n h : ℕ) (T : Table b s w n) (y d : ℕ) (eh : key_of s y d ≡ key_in b s w h) (r : ℕ) (er : r ≡ hash_before y (name_at s d)) where
@@ -114,7 +111,7 @@ module _ (b : TypeTable) (s w : List ℕ) (n h : ℕ) (T : Table b s w n) (y d :
     pub seek_less : (next : ℕ) → next ≡ get_word w (later_p b.types c) → pick (eqb next 0) 0 (n - next) < pick (eqb c 0) 0 (n - c)
     seek_less next e =
         let b : c < n = S.below z in
-        rw (ne_eqb c 0 z) (⊎_elim (λ (l : next ≤ 0). end b l) (λ (l : 0 < next). on b (further l)) (le_or_lt next 0))
+        rw (ne_eqb c 0 z) (⊎_elim (λ (l : 0 < next). on b (further l)) (λ (l : next ≤ 0). end b l) (cases_lt 0 next))
       where
         end : c < n → next ≤ 0 → pick (eqb next 0) 0 (n - next) < n - c
         end b l = let q : next ≡ 0 = omega arith in rw q (omega arith)

@@ -4,24 +4,16 @@ ghost use Rattle.spec_type_table.specs.Names.{up_to_zero};
 ghost use Rattle.btf_open_names.specs.name_classes.Same.{same_list};
 ghost use Rattle.btf_open_names.specs.name_classes.Table.{step_of, hash_from};
 
-use base_bytes::element::peek;
-
 // The factor of the FNV hash of 32 bits.
 const FACTOR: u32 = 16777619;
 
-// Whether the names at the front of two slices are the same. (One pass: it is the one that finds where they end.)
+// Whether the names at the front of two slices are the same.
 pub fn same_name(x: &[u8], y: &[u8]) -> bool
     ensures { result ≡ same_list (up_to_zero x.now) (up_to_zero y.now) }
 {
-    for (k, a) in x.iter().enumerate() {
-        if *a != peek(y, k, 0) {
-            return false;
-        }
-        if *a == 0 {
-            return true;
-        }
-    }
-    peek(y, x.len(), 0) == 0
+    x.iter()
+        .take_while(|a| **a != 0)
+        .eq(y.iter().take_while(|b| **b != 0))
 }
 
 // One byte more into a hash.

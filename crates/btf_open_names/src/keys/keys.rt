@@ -30,7 +30,7 @@ impl From<Space> for u32 {
     }
 }
 
-// The space of a type's name, by its kind.
+// The space of a type's name, by its kind. (An Option and no TryFrom: most kinds have no space, which is no error.)
 fn space_of(info: u32) -> Option<Space>
     ensures { space_code result ≡ space_of (kind_of info) }
 {
@@ -61,7 +61,8 @@ fn name_of(b: &Table, at: u32) -> usize
     (b.head.strs as usize) + (b.word(at as usize) as usize)
 }
 
-// The space of a holder, and where its name stands.
+// The space of a holder, and where its name stands. (A place and not the slice: two keys of one place have one name, and no byte of it is
+// looked at then.)
 #[derive(Clone, Copy)]
 pub struct Key {
     pub space: Space,
@@ -81,7 +82,7 @@ pub fn load_key(b: &Table, work: &[u8], h: u32) -> Option<Key>
 }
 
 impl Key {
-    // The section from the name on.
+    // The section from the name on. (`Table::from_name` takes the offset in the string area.)
     pub fn from_name(self, section: &[u8]) -> &[u8]
         ensures { result.now ≡ drop self.name section.now }
     {

@@ -27,18 +27,13 @@ fn digit_after(acc: u32, x: u8) -> Option<u32>
     Some(v)
 }
 
-// The number that a name is in decimal. (A `for` with `?`: std has no lemma of `try_fold`.)
+// The number that a name is in decimal. (By hand: `parse` takes a `+` and zeros in front, which this refuses, and a &str.)
 fn numeral(name: &[u8]) -> Option<u32>
     ensures { unwrap_or result 0 ≡ numeral (up_to_zero name.now) }
 {
-    let mut acc: u32 = 0;
-    for x in name {
-        if *x == 0 {
-            return Some(acc);
-        }
-        acc = digit_after(acc, *x)?;
-    }
-    Some(acc)
+    name.iter()
+        .take_while(|x| **x != 0)
+        .try_fold(0, |acc: u32, x| digit_after(acc, *x))
 }
 
 // The number of a name that is three underscores and a number.
@@ -53,7 +48,8 @@ fn suffix_in(name: &[u8]) -> Option<u32>
     Some(n)
 }
 
-// How many bytes of a name stand before its suffix; all of them where it has none.
+// How many bytes of a name stand before its suffix; all of them where it has none. (A `find` over 0..len with the same test: tried, and
+// the proof of what it returns did not close.)
 fn base_len(name: &[u8]) -> usize
     ensures { result ≡ base_len (up_to_zero name.now) }
 {
@@ -79,7 +75,8 @@ pub fn hash_before(name: &[u8], start: u32) -> u32
     hash_name(&name[..base_len(name)], start)
 }
 
-// The number with which the name y is the name x, three underscores and a number.
+// The number with which the name y is the name x, three underscores and a number. (No `strip_prefix`: it takes the name x cut off at its
+// 0, so each x is read to its end first, where mostly the first bytes differ.)
 pub fn suffix_on(x: &[u8], y: &[u8]) -> Option<u32>
     ensures { result ≡ from_two (suffix_on (up_to_zero x.now) (up_to_zero y.now)) }
 {

@@ -5,40 +5,41 @@ ghost use Rattle.btf_open_names.specs.filled_work.Takers.{base_from};
 ghost use Rattle.btf_open_names.specs.hash_table.Hashed.{Table as IsFilled, TableIf};
 ghost use Rattle.btf_open_names.specs.suffixes.Based.{based};
 
+use crate::holders::Holders;
 use crate::keys::load_key;
 use crate::suffixes::{Base, base_at, base_of, hash_before};
 use btf_type_table::cell;
-use btf_type_table::table::Table;
 
 // The base of h. It stands in the bucket of what is before the suffix.
-fn base_in(b: &Table, work: &[u8], n: u32, h: u32) -> Option<Base>
-    requires { (h < n) × IsFilled b.now.head b.now.section.now work.now n }
+fn base_in(all: &Holders, work: &[u8], h: u32) -> Option<Base>
+    requires { (h < all.now.n) × IsFilled all.now.table.head all.now.table.section.now work.now all.now.n }
     ensures { result
-        ≡ based (key_in b.now.head b.now.section.now work.now) h
-        (base_from (key_in b.now.head b.now.section.now work.now) h (n - 1) 1) }
+        ≡ based (key_in all.now.table.head all.now.table.section.now work.now) h
+        (base_from (key_in all.now.table.head all.now.table.section.now work.now) h (all.now.n - 1) 1) }
 {
-    let key = load_key(b, work, h)?;
-    let i = hash_before(key.from_name(b.section), u32::from(key.space)) % n;
-    let mut c = cell::TABLE_BUCKET.get(work, b.head.types, i);
-    // A `while`: a list in the lent work goes by its links. (std takes `successors` to be endless: a walk to its end is not proved.)
+    let key = load_key(&all.table, work, h)?;
+    let i = hash_before(key.from_name(all.table.section), u32::from(key.space)) % all.n;
+    let mut c = cell::TABLE_BUCKET.get(work, all.table.head.types, i);
+    // A `while` that ends because the links rise. (`successors` is endless: with `take` it would count besides, only to end.)
     while c != 0 {
-        if let Some(base) = base_at(b, work, c, key) {
+        if let Some(base) = base_at(&all.table, work, c, key) {
             return Some(base);
         }
-        c = cell::TABLE_LINK.get(work, b.head.types, c);
+        c = cell::TABLE_LINK.get(work, all.table.head.types, c);
     }
     None
 }
 
-// The same, by the table if there is one. (A flag: a closure would have to borrow the work that the loop over all holders writes.)
-pub(crate) fn base(b: &Table, work: &[u8], n: u32, h: u32, has_table: bool) -> Option<Base>
-    requires { (h < n) × TableIf has_table b.now.head b.now.section.now work.now n }
+// The same, by the table if there is one. (A flag: of an `F: Fn` in its place, put_taker and the loop around it would have to require
+// what it answers on each work of the loop, and that of `base_in` stands on a table there.)
+pub(crate) fn base(all: &Holders, work: &[u8], h: u32, has_table: bool) -> Option<Base>
+    requires { (h < all.now.n) × TableIf has_table all.now.table.head all.now.table.section.now work.now all.now.n }
     ensures { result
-        ≡ based (key_in b.now.head b.now.section.now work.now) h
-        (base_from (key_in b.now.head b.now.section.now work.now) h (n - 1) 1) }
+        ≡ based (key_in all.now.table.head all.now.table.section.now work.now) h
+        (base_from (key_in all.now.table.head all.now.table.section.now work.now) h (all.now.n - 1) 1) }
 {
     if has_table {
-        return base_in(b, work, n, h);
+        return base_in(all, work, h);
     }
-    base_of(b, work, n, h)
+    base_of(&all.table, work, all.n, h)
 }

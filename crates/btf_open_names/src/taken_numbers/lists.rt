@@ -1,14 +1,14 @@
 // Each name that is another one of its space with a suffix is put on that one's list.
-ghost use Rattle.std.specs.Prelude.{◌≡◌, ◌<◌};
+ghost use Rattle.std.specs.Prelude.{◌≡◌, ◌-◌, ◌<◌};
 ghost use Rattle.btf_open_names.specs.filled_work.Takers.{listed_on, taker_put, with_takers, takers_in};
 ghost use Rattle.btf_open_names.specs.hash_table.Hashed.{TableIf};
 
 use crate::hash_table::make_table;
-use crate::holders::{Links, clear_words};
+use crate::holders::{Holders, Links};
 use crate::keys::load_key;
 use crate::suffixes::{Base, has_suffix};
 use crate::taken_numbers::bases::base;
-use btf_open_causes::header::{NAMES_APART, has_mode};
+use btf_open_causes::header::{Mode, has_mode};
 use btf_type_table::cell;
 use btf_type_table::table::Table;
 
@@ -27,39 +27,36 @@ fn put_on(work: &mut [u8], types: u32, base: Base, h: u32)
 }
 
 // Puts h on a list, if it is the first of its name and there is a name that it is with a suffix.
-fn put_taker(b: &Table, work: &mut [u8], n: u32, h: u32, has_table: bool)
-    requires { (h < n) × TableIf has_table b.now.head b.now.section.now work.old n }
-    ensures { work.new ≡ taker_put b.now.head b.now.section.now n h work.old }
+fn put_taker(all: &Holders, work: &mut [u8], h: u32, has_table: bool)
+    requires { (h < all.now.n) × TableIf has_table all.now.table.head all.now.table.section.now work.old all.now.n }
+    ensures { work.new ≡ taker_put all.now.table.head all.now.table.section.now all.now.n h work.old }
 {
-    if cell::NAME_CLASS.get(work, b.head.types, h) != h {
+    if cell::NAME_CLASS.get(work, all.table.head.types, h) != h {
         return;
     }
-    let Some(key) = load_key(b, work, h) else {
+    let Some(key) = load_key(&all.table, work, h) else {
         return;
     };
-    if !has_suffix(key.from_name(b.section)) {
+    if !has_suffix(key.from_name(all.table.section)) {
         return;
     }
-    if let Some(base) = base(b, work, n, h, has_table) {
-        put_on(work, b.head.types, base, h);
+    if let Some(base) = base(all, work, h, has_table) {
+        put_on(work, all.table.head.types, base, h);
     }
 }
 
 // All holders, from the last to the first, so that those on a list stand in rising order. The work that opening has filled
 // has room for the table.
-fn put_takers(b: &Table, enumerators: u32, work: &mut [u8])
-    ensures { work.new ≡ with_takers b.now.head enumerators b.now.section.now work.old }
+fn put_takers(all: &Holders, work: &mut [u8])
+    ensures { work.new ≡ with_takers all.now.table.head (all.now.n - all.now.table.head.types) all.now.table.section.now work.old }
 {
-    let Some(n) = b.head.types.checked_add(enumerators) else {
-        return;
-    };
-    let has_table = make_table(b, enumerators, work);
-    for h in (1..n).rev() {
-        put_taker(b, work, n, h, has_table);
+    let has_table = make_table(&all.table, all.n - all.table.head.types, work);
+    for h in (1..all.n).rev() {
+        put_taker(all, work, h, has_table);
     }
     if has_table {
-        clear_words(work, b.head.types, n, cell::TABLE_LINK);
-        clear_words(work, b.head.types, n, cell::TABLE_BUCKET);
+        all.clear(work, cell::TABLE_LINK);
+        all.clear(work, cell::TABLE_BUCKET);
     }
 }
 
@@ -67,8 +64,10 @@ fn put_takers(b: &Table, enumerators: u32, work: &mut [u8])
 pub fn takers(b: &Table, modes: u32, enumerators: u32, work: &mut [u8])
     ensures { work.new ≡ takers_in modes b.now.head enumerators b.now.section.now work.old }
 {
-    if !has_mode(modes, NAMES_APART) {
+    if !has_mode(modes, Mode::NamesApart) {
         return;
     }
-    put_takers(b, enumerators, work)
+    if let Some(all) = Holders::of(b, enumerators) {
+        put_takers(&all, work)
+    }
 }

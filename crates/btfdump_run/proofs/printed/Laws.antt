@@ -7,7 +7,7 @@ use mathlib.Core.Logic.{⊎_elim}
 use native.Mathlib.Omega.{arith}
 use lib.ListN.{length, drop, replicate}
 use borrow.Author.Tests.{le-leb, lt-leb}
-use Rattle.spec_bytes.proofs.words.Laws.{le_or_lt}
+use Rattle.std.proofs.lemmas.Bool.{cases_lt}
 use Rattle.std.specs.Prelude.{Option, Some, None, Ok, Err}
 use Rattle.spec_bytes.specs.declared.refusal.Refusal.{Refusal}
 use Rattle.spec_bytes.specs.Refusals.{refusal_number}
@@ -43,7 +43,7 @@ module _ (t : List ℕ) (n : ℕ) (r : Placed) (u : List ℕ) (e : put_out r u �
 
   pub line_written : (k : ℕ) → r ≡ Ok k → shown_to (Some k) u ≡ line_shown t n
   unfolding put_out
-  line_written k q = ⊎_elim fits over (le_or_lt (length (refused_line n)) (length t))
+  line_written k q = ⊎_elim over fits (cases_lt (length t) (length (refused_line n)))
     where
       fits : length (refused_line n) ≤ length t → shown_to (Some k) u ≡ line_shown t n
       fits l =
@@ -63,7 +63,7 @@ module _ (t : List ℕ) (n : ℕ) (r : Placed) (u : List ℕ) (e : put_out r u �
 
   pub line_stopped : (c : Refusal) → r ≡ Err c → length u ≡ length t → (v : List ℕ) → v ≡ replicate (length u) 0 → shown_to None v ≡ line_shown t n
   unfolding put_out
-  line_stopped c q k v z = ⊎_elim fits over (le_or_lt (length (refused_line n)) (length t))
+  line_stopped c q k v z = ⊎_elim over fits (cases_lt (length t) (length (refused_line n)))
     where
       no : (x : List ℕ) (m : ℕ) → stopped (refusal_number c) ≡ done x m → ⊥
       no x m y = cc

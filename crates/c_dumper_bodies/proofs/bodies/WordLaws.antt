@@ -7,10 +7,10 @@ use mathlib.Core.Logic.{⊎_elim}
 use native.Mathlib.Omega.{arith}
 use lib.Dec.{eqb, leb}
 use borrow.Author.Tests.{ne_eqb, le-leb, lt-leb}
+use Rattle.std.proofs.lemmas.Bool.{cases_lt}
 use Rattle.spec_bytes.specs.text.Text.{ascii, whole}
 use Rattle.spec_bytes.specs.text.Placed.{Placed, put_out, put_text}
 use Rattle.spec_bytes.specs.text.Decimal.{decimal}
-use Rattle.spec_bytes.proofs.words.Laws.{le_or_lt}
 use Rattle.spec_bytes.proofs.text.TextLaws.{put_seq}
 use Rattle.spec_c_dumper.specs.rules.Types.{Name, is_empty, Member, Param}
 use Rattle.spec_c_dumper.specs.rules.Decl.{attribute, brackets, bit_size_of, shown_params}
@@ -115,9 +115,9 @@ pub any_last : (n k x : ℕ) → x ≡ 0 → leb (n - 1) k ≡ (leb n (k + 1) &&
 any_last n k x e =
     rw e
     (⊎_elim
-    (λ l. rw (le-leb n (k + 1) l, le-leb (n - 1) k (omega arith)))
     (λ l. rw (lt-leb n (k + 1) l, lt-leb (n - 1) k (omega arith)))
-    (le_or_lt n (k + 1)))
+    (λ l. rw (le-leb n (k + 1) l, le-leb (n - 1) k (omega arith)))
+    (cases_lt (k + 1) n))
 
 -- the words of a parameter, at its place
 pub type_at : (b : TypeTable) (s : List ℕ) (p at : ℕ) → p ≡ param_at at 0 → section_word b s (p + 4) ≡ (param_of b s at 0).type_id

@@ -2,8 +2,7 @@
 use Prim.Native.Nat.{ℕ}
 use mathlib.Core.Path.{◌≡◌, refl, ap, ◌∙◌, sym, subst}
 use mathlib.Core.List.{List, [], ◌∷◌}
-use mathlib.Core.Bool.{Bool, true, false}
-use native.Mathlib.Omega.{arith}
+use mathlib.Core.Bool.{Bool, true, false, false≢true}
 use Rattle.spec_c_dumper.specs.rules.Types.{Name, Param, Qualifier}
 use Rattle.spec_c_dumper.specs.rules.Decl.{Entry, base, star, qual, array, proto, tag, ends, leads, link_of, mods, no_mods, is_array}
 use Rattle.spec_c_dumper.specs.rules.Chain.{entry_by, target_by}
@@ -17,9 +16,6 @@ use Rattle.spec_type_table.specs.Table.{type_of, record_name, nelems_word, param
 use Rattle.spec_type_table.proofs.KindTypes.{type_as, type_is}
 use Rattle.c_dumper_bodies.specs.chain.Chains.{is_link, is_qualifier, qualifier_of, next_of, entry_of}
 
-pub false_true : false ≡ true → ⊥
-false_true q = let k : ◌≡◌ {A = ℕ} 0 1 = cc in omega arith
-
 -- ---- the links of a kind
 module _ (b : TypeTable) (s : List ℕ) (t : Record) where
   abbrev kind_lem : Kind
@@ -29,48 +25,48 @@ module _ (b : TypeTable) (s : List ℕ) (t : Record) where
   link_as y p = ap link_of (type_is b s t _ refl y p)
 
   on_as : (id x : ℕ) (y : Kind) → is_link y ≡ true → link_of (type_as b s t y) ≡ leads (entry_by id (link_of (type_as b s t y))) (target_by x (link_of (type_as b s t y)))
-  on_as id x Void h = absurd (false_true h)
-  on_as id x Int h = absurd (false_true h)
+  on_as id x Void h = absurd (false≢true h)
+  on_as id x Int h = absurd (false≢true h)
   on_as id x Ptr h = refl
   on_as id x Array h = refl
-  on_as id x Struct h = absurd (false_true h)
-  on_as id x Union h = absurd (false_true h)
-  on_as id x Enum h = absurd (false_true h)
-  on_as id x Fwd h = absurd (false_true h)
-  on_as id x Typedef h = absurd (false_true h)
+  on_as id x Struct h = absurd (false≢true h)
+  on_as id x Union h = absurd (false≢true h)
+  on_as id x Enum h = absurd (false≢true h)
+  on_as id x Fwd h = absurd (false≢true h)
+  on_as id x Typedef h = absurd (false≢true h)
   on_as id x Volatile h = refl
   on_as id x Const h = refl
   on_as id x Restrict h = refl
-  on_as id x Func h = absurd (false_true h)
+  on_as id x Func h = absurd (false≢true h)
   on_as id x FuncProto h = refl
-  on_as id x Var h = absurd (false_true h)
-  on_as id x Datasec h = absurd (false_true h)
-  on_as id x Float h = absurd (false_true h)
-  on_as id x DeclTag h = absurd (false_true h)
+  on_as id x Var h = absurd (false≢true h)
+  on_as id x Datasec h = absurd (false≢true h)
+  on_as id x Float h = absurd (false≢true h)
+  on_as id x DeclTag h = absurd (false≢true h)
   on_as id x TypeTag h = refl
-  on_as id x Enum64 h = absurd (false_true h)
-  on_as id x Unknown h = absurd (false_true h)
+  on_as id x Enum64 h = absurd (false≢true h)
+  on_as id x Unknown h = absurd (false≢true h)
 
   ends_as : (y : Kind) → is_link y ≡ false → link_of (type_as b s t y) ≡ ends
   ends_as Void h = refl
   ends_as Int h = refl
-  ends_as Ptr h = absurd (false_true (sym h))
-  ends_as Array h = absurd (false_true (sym h))
+  ends_as Ptr h = absurd (false≢true (sym h))
+  ends_as Array h = absurd (false≢true (sym h))
   ends_as Struct h = refl
   ends_as Union h = refl
   ends_as Enum h = refl
   ends_as Fwd h = refl
   ends_as Typedef h = refl
-  ends_as Volatile h = absurd (false_true (sym h))
-  ends_as Const h = absurd (false_true (sym h))
-  ends_as Restrict h = absurd (false_true (sym h))
+  ends_as Volatile h = absurd (false≢true (sym h))
+  ends_as Const h = absurd (false≢true (sym h))
+  ends_as Restrict h = absurd (false≢true (sym h))
   ends_as Func h = refl
-  ends_as FuncProto h = absurd (false_true (sym h))
+  ends_as FuncProto h = absurd (false≢true (sym h))
   ends_as Var h = refl
   ends_as Datasec h = refl
   ends_as Float h = refl
   ends_as DeclTag h = refl
-  ends_as TypeTag h = absurd (false_true (sym h))
+  ends_as TypeTag h = absurd (false≢true (sym h))
   ends_as Enum64 h = refl
   ends_as Unknown h = refl
 
@@ -107,27 +103,27 @@ module _ (b : TypeTable) (s w : List ℕ) (id : ℕ) (t : Record) (et : t ≡ re
   entry_base h = ap (λ (y : Record). entry_by id (link_of (type_of b s y))) (sym et) ∙ ap (entry_by id) (link_ends b s t h)
 
   qual_as : (y : Kind) → is_qualifier y ≡ true → entry_by id (link_of (type_as b s t y)) ≡ qual (qualifier_of y)
-  qual_as Void h = absurd (false_true h)
-  qual_as Int h = absurd (false_true h)
-  qual_as Ptr h = absurd (false_true h)
-  qual_as Array h = absurd (false_true h)
-  qual_as Struct h = absurd (false_true h)
-  qual_as Union h = absurd (false_true h)
-  qual_as Enum h = absurd (false_true h)
-  qual_as Fwd h = absurd (false_true h)
-  qual_as Typedef h = absurd (false_true h)
+  qual_as Void h = absurd (false≢true h)
+  qual_as Int h = absurd (false≢true h)
+  qual_as Ptr h = absurd (false≢true h)
+  qual_as Array h = absurd (false≢true h)
+  qual_as Struct h = absurd (false≢true h)
+  qual_as Union h = absurd (false≢true h)
+  qual_as Enum h = absurd (false≢true h)
+  qual_as Fwd h = absurd (false≢true h)
+  qual_as Typedef h = absurd (false≢true h)
   qual_as Volatile h = refl
   qual_as Const h = refl
   qual_as Restrict h = refl
-  qual_as Func h = absurd (false_true h)
-  qual_as FuncProto h = absurd (false_true h)
-  qual_as Var h = absurd (false_true h)
-  qual_as Datasec h = absurd (false_true h)
-  qual_as Float h = absurd (false_true h)
-  qual_as DeclTag h = absurd (false_true h)
-  qual_as TypeTag h = absurd (false_true h)
-  qual_as Enum64 h = absurd (false_true h)
-  qual_as Unknown h = absurd (false_true h)
+  qual_as Func h = absurd (false≢true h)
+  qual_as FuncProto h = absurd (false≢true h)
+  qual_as Var h = absurd (false≢true h)
+  qual_as Datasec h = absurd (false≢true h)
+  qual_as Float h = absurd (false≢true h)
+  qual_as DeclTag h = absurd (false≢true h)
+  qual_as TypeTag h = absurd (false≢true h)
+  qual_as Enum64 h = absurd (false≢true h)
+  qual_as Unknown h = absurd (false≢true h)
 
   pub entry_qual : is_qualifier (kind_named (kind_of t.info)) ≡ true → entry_of b s w id ≡ qual (qualifier_of (kind_named (kind_of t.info)))
   entry_qual h = entry_kind _ refl ∙ qual_as _ h
@@ -163,11 +159,11 @@ module _ (b : TypeTable) (s w : List ℕ) (id : ℕ) (t : Record) (et : t ≡ re
 
   pub stays_on : (c : List Entry) → is_qualifier (kind_named (kind_of t.info)) ≡ false → no_mods (entry_of b s w id ∷ c) ≡ entry_of b s w id ∷ c
   unfolding no_mods
-  stays_on c f = by_entry (λ e. no_mods (e ∷ c) ≡ e ∷ c) refl refl (λ n. refl) (λ ps. refl) (λ a n. refl) (λ q h. absurd (false_true (sym f ∙ h)))
+  stays_on c f = by_entry (λ e. no_mods (e ∷ c) ≡ e ∷ c) refl refl (λ n. refl) (λ ps. refl) (λ a n. refl) (λ q h. absurd (false≢true (sym f ∙ h)))
 
   pub no_words : (c : List Entry) → is_qualifier (kind_named (kind_of t.info)) ≡ false → mods (entry_of b s w id ∷ c) ≡ []
   unfolding mods
-  no_words c f = by_entry (λ e. mods (e ∷ c) ≡ []) refl refl (λ n. refl) (λ ps. refl) (λ a n. refl) (λ q h. absurd (false_true (sym f ∙ h)))
+  no_words c f = by_entry (λ e. mods (e ∷ c) ≡ []) refl refl (λ n. refl) (λ ps. refl) (λ a n. refl) (λ q h. absurd (false≢true (sym f ∙ h)))
 
   -- whether an array is on top
   pub array_on : kind_named (kind_of t.info) ≡ Array → is_array (entry_of b s w id) ≡ true

@@ -1,7 +1,7 @@
 -- Below its base a chain has only entries that lead on, and so has what is popped from it. Assumes nothing.
 use Prim.Native.Nat.{ℕ, zero, suc}
 use mathlib.Core.Path.{◌≡◌, refl, ap, ◌∙◌, sym}
-use mathlib.Core.Bool.{Bool, true, false}
+use mathlib.Core.Bool.{Bool, true, false, false≢true}
 use Rattle.std.specs.Prelude.{Option, Some}
 use mathlib.Core.List.{List, [], ◌∷◌}
 use Rattle.spec_c_dumper.specs.rules.Writer.{Ask, got, no}
@@ -17,11 +17,11 @@ use Rattle.spec_type_table.specs.Table.{btf_of}
 use Rattle.c_dumper_bodies.specs.declared.chain.links.Base.{Base}
 use Rattle.c_dumper_bodies.specs.chain.Chains.{is_link, entry_of, chain_at, chain_is, only_links}
 use Rattle.c_dumper_bodies.specs.bodies.Pieces.{entry_left}
-use Rattle.c_dumper_bodies.proofs.chain.Linked.{false_true, entry_base}
+use Rattle.c_dumper_bodies.proofs.chain.Linked.{entry_base}
 
 pub links_below : (e : Entry) (c : List Entry) → only_links (e ∷ c) ≡ true → only_links c ≡ true
 unfolding only_links
-links_below (base id) c h = absurd (false_true h)
+links_below (base id) c h = absurd (false≢true h)
 links_below star c h = h
 links_below (qual q) c h = h
 links_below (array k) c h = h
@@ -31,7 +31,7 @@ links_below (tag a name) c h = h
 pub links_mods : (c : List Entry) → only_links c ≡ true → only_links (no_mods c) ≡ true
 unfolding only_links no_mods
 links_mods [] h = refl
-links_mods (base id ∷ c) h = absurd (false_true h)
+links_mods (base id ∷ c) h = absurd (false≢true h)
 links_mods (star ∷ c) h = h
 links_mods (qual q ∷ c) h = links_mods c h
 links_mods (array k ∷ c) h = h
@@ -41,7 +41,7 @@ links_mods (tag a name ∷ c) h = h
 pub links_left : (c : List Entry) → only_links c ≡ true → only_links (entry_left c) ≡ true
 unfolding only_links entry_left
 links_left [] h = refl
-links_left (base id ∷ c) h = absurd (false_true h)
+links_left (base id ∷ c) h = absurd (false≢true h)
 links_left (star ∷ c) h = h
 links_left (qual q ∷ c) h = h
 links_left (array k ∷ c) h = refl
@@ -93,30 +93,30 @@ module _ (b : TypeTable) (s w : List ℕ) where
       where
         go : (l : Bool) → is_link (kind_named (kind_of t.info)) ≡ l → is_link (kind_named (kind_of t.info)) ≡ true
         go true e = e
-        go false e = absurd (false_true (sym (ap (λ (y : Entry). only_links (y ∷ c)) (entry_base b s w id t et e)) ∙ h))
+        go false e = absurd (false≢true (sym (ap (λ (y : Entry). only_links (y ∷ c)) (entry_base b s w id t et e)) ∙ h))
 
     tag_only : (k : Kind) → is_link k ≡ true → (k ≡ kinds.Ptr → ⊥) → (k ≡ kinds.Array → ⊥) → (k ≡ kinds.Volatile → ⊥) → (k ≡ kinds.Const → ⊥) → (k ≡ kinds.Restrict → ⊥) → (k ≡ kinds.FuncProto → ⊥) → k ≡ kinds.TypeTag
-    tag_only kinds.Void l n a v c r p = absurd (false_true l)
-    tag_only kinds.Int l n a v c r p = absurd (false_true l)
+    tag_only kinds.Void l n a v c r p = absurd (false≢true l)
+    tag_only kinds.Int l n a v c r p = absurd (false≢true l)
     tag_only kinds.Ptr l n a v c r p = absurd (n refl)
     tag_only kinds.Array l n a v c r p = absurd (a refl)
-    tag_only kinds.Struct l n a v c r p = absurd (false_true l)
-    tag_only kinds.Union l n a v c r p = absurd (false_true l)
-    tag_only kinds.Enum l n a v c r p = absurd (false_true l)
-    tag_only kinds.Fwd l n a v c r p = absurd (false_true l)
-    tag_only kinds.Typedef l n a v c r p = absurd (false_true l)
+    tag_only kinds.Struct l n a v c r p = absurd (false≢true l)
+    tag_only kinds.Union l n a v c r p = absurd (false≢true l)
+    tag_only kinds.Enum l n a v c r p = absurd (false≢true l)
+    tag_only kinds.Fwd l n a v c r p = absurd (false≢true l)
+    tag_only kinds.Typedef l n a v c r p = absurd (false≢true l)
     tag_only kinds.Volatile l n a v c r p = absurd (v refl)
     tag_only kinds.Const l n a v c r p = absurd (c refl)
     tag_only kinds.Restrict l n a v c r p = absurd (r refl)
-    tag_only kinds.Func l n a v c r p = absurd (false_true l)
+    tag_only kinds.Func l n a v c r p = absurd (false≢true l)
     tag_only kinds.FuncProto l n a v c r p = absurd (p refl)
-    tag_only kinds.Var l n a v c r p = absurd (false_true l)
-    tag_only kinds.Datasec l n a v c r p = absurd (false_true l)
-    tag_only kinds.Float l n a v c r p = absurd (false_true l)
-    tag_only kinds.DeclTag l n a v c r p = absurd (false_true l)
+    tag_only kinds.Var l n a v c r p = absurd (false≢true l)
+    tag_only kinds.Datasec l n a v c r p = absurd (false≢true l)
+    tag_only kinds.Float l n a v c r p = absurd (false≢true l)
+    tag_only kinds.DeclTag l n a v c r p = absurd (false≢true l)
     tag_only kinds.TypeTag l n a v c r p = refl
-    tag_only kinds.Enum64 l n a v c r p = absurd (false_true l)
-    tag_only kinds.Unknown l n a v c r p = absurd (false_true l)
+    tag_only kinds.Enum64 l n a v c r p = absurd (false≢true l)
+    tag_only kinds.Unknown l n a v c r p = absurd (false≢true l)
 
     pub links_tag : (k : Kind) → k ≡ kind_named (kind_of t.info) → (k ≡ kinds.Ptr → ⊥) → (k ≡ kinds.Array → ⊥) → (k ≡ kinds.Volatile → ⊥) → (k ≡ kinds.Const → ⊥) → (k ≡ kinds.Restrict → ⊥) → (k ≡ kinds.FuncProto → ⊥) → k ≡ kinds.TypeTag
     links_tag k ek n a v q r p = tag_only k (ap is_link ek ∙ leads_on) n a v q r p

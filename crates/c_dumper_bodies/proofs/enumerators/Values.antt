@@ -77,11 +77,11 @@ module _ (b : TypeTable) (s : List ℕ) (id i e off lvl : ℕ) (val w w' : List 
       ∙ ap (λ (x : List ℕ). put_said t at (line lvl val x w')) (sym (numbered_as (value_version_in b.types e w).version (str_at b s off))))
 
 -- ---- the loop
-from_more : {E : Type 0} (f : ℕ → E) (k n : ℕ) → k < n → from f k (n - k) ≡ f k ∷ from f (k + 1) (n - (k + 1))
+pub from_more : {E : Type 0} (f : ℕ → E) (k n : ℕ) → k < n → from f k (n - k) ≡ f k ∷ from f (k + 1) (n - (k + 1))
 unfolding from
 from_more f k n h = let e : n - k ≡ suc (n - (k + 1)) = omega arith in ap (from f k) e
 
-from_none : {E : Type 0} (f : ℕ → E) (k n : ℕ) → n ≤ k → from f k (n - k) ≡ []
+pub from_none : {E : Type 0} (f : ℕ → E) (k n : ℕ) → n ≤ k → from f k (n - k) ≡ []
 unfolding from
 from_none f k n h = let e : n - k ≡ 0 = omega arith in ap (from f k) e
 

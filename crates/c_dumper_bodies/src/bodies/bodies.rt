@@ -59,7 +59,7 @@ pub fn emit_enum_word(
     if b.is_empty(x.t.name_off) {
         return emit_enum_def(b, work, text, at, x, lvl);
     }
-    emit_enum_head(b, work, text, at, x.id, x.t.name_off)
+    emit_enum_head(b, work, text, at, x)
 }
 
 pub fn put_typedef_name(
@@ -67,14 +67,13 @@ pub fn put_typedef_name(
     work: &mut [u8],
     text: &mut [u8],
     at: usize,
-    id: u32,
-    name_off: u32,
+    x: TypeRef,
 ) -> Result<usize, Refusal>
     ensures { out_of result text.new work.new
-        ≡ put_said text.old (Ok at) (resolve_type_name (work_naming b.now.head) ident_space id
-        (str_at b.now.head b.now.section.now name_off) put work.old) }
+        ≡ put_said text.old (Ok at) (resolve_type_name (work_naming b.now.head) ident_space x.id
+        (str_at b.now.head b.now.section.now x.t.name_off) put work.old) }
 {
-    let name = resolve_type_name(b, work, id, name_off);
+    let name = resolve_type_name(b, work, x);
     put_name(b, text, at, name)
 }
 
@@ -89,7 +88,7 @@ pub fn emit_composite_head(
         ≡ put_said text.old (Ok at) (composite_head (work_naming b.now.head) (btf_of b.now.head b.now.section.now work.old) no_decl x.id
         (eqb (kind_of x.t.info) 4) (record_name b.now.head b.now.section.now x.t) work.old) }
 {
-    let name = resolve_type_name(b, work, x.id, x.t.name_off);
+    let name = resolve_type_name(b, work, x);
     let a = put_keyword(b.head, text, at, is_struct(x.t))?;
     let c = put_sep_name(b, text, a, name)?;
     put_bytes(text, c, b" {")

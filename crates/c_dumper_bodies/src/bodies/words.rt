@@ -11,7 +11,6 @@ ghost use Rattle.c_dumper_bodies.specs.bodies.Pieces.{gap, star_text, comma, siz
 use base_bytes::put::{put_byte, put_bytes, put_decimal};
 use base_bytes::refusal::Refusal;
 use base_keywords::table::{Word, put_word};
-use btf_type_table::kind::kind_flag_of;
 use btf_type_table::table::Table;
 use c_dumper_name_versions::names::{Name, is_blank};
 use c_dumper_name_versions::tags::put_attribute;
@@ -22,7 +21,7 @@ pub fn put_type_tag(b: &Table, text: &mut [u8], at: usize, t: BtfType) -> Result
         ≡ put_text text.old (Ok at) (whole
         (attribute (flag_of t.info) (ascii "btf_type_tag") (record_name b.now.head b.now.section.now t))) }
 {
-    put_attribute(b, text, at, kind_flag_of(t.info), false, t.name_off)
+    put_attribute(b, text, at, t, false)
 }
 
 pub fn put_star(text: &mut [u8], at: usize, last_was_ptr: bool) -> Result<usize, Refusal>
@@ -78,6 +77,8 @@ pub fn put_bit_size(text: &mut [u8], at: usize, bit_size: u32) -> Result<usize, 
     put_decimal(text, a, bit_size as u64)
 }
 
+// A newline before the closing bracket, where there are members. (Not one with put_own_line of c_dumper_padding, which writes it where
+// there are none: the condition is all that either has, so a common one would take it and be an `if` beside put_byte.)
 pub fn put_last_newline(text: &mut [u8], at: usize, vlen: u32) -> Result<usize, Refusal>
     ensures { put_out result text.new ≡ put_text text.old (Ok at) (whole (line_end vlen)) }
 {

@@ -75,10 +75,6 @@ module _ (b : TypeTable) (s : List ℕ) where
   pub chain_left : ℕ → ℕ → Name → ℕ → Rest → List ℕ → Said (List ℕ)
   chain_left below id fname lvl c w = chain_rest (Q b s (T b s w)) (N b s) (T b s w) below fname lvl false c.last_was_ptr (chain_at b s w id c.n) w
 
-  -- fewer entries are left
-  pub rest_below : (chain : ℕ → List Entry) (n : ℕ) (o : Option Rest) (x : Rest) → o ≡ Some x → RestIs chain n o → x.n ≤ n - 1
-  rest_below chain n o x e h = (subst (RestIs chain n) e h).3
-
   module _ (below id : ℕ) (fname : Name) (lvl : ℕ) (p : Placed) (c : Rest) (w : List ℕ) where
     -- an entry's promise
     abbrev pub Printed : List ℕ → Result Stand Refusal → List ℕ → List ℕ → Type 0

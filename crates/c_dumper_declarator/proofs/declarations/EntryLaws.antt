@@ -62,14 +62,6 @@ module _ (b : TypeTable) (s : List ℕ) where
   links_based below id lvl w x t n m em a t₁ p t₂ w₂ o l =
       links_kept b s _ t₁ a w p t₂ w₂ id m (kept_word b s (T b s w) below [] lvl x (type_of b s t)) o (ap only_links (no_mods_lem w id n m em) ∙ links_mods _ l)
 
-  -- an entry of no other kind that leads on is a type tag
-  pub is_tag : (w : List ℕ) (id n x : ℕ) (t : Record) (k : Kind) → 0 < n → x ≡ path_at b s w id (n - 1) → t ≡ record_by_id b s w x → k ≡ kind_named (kind_of t.info) → only_links (chain_at b s w id n) ≡ true
-      → (k ≡ Ptr → ⊥) → (k ≡ Array → ⊥) → (k ≡ Volatile → ⊥) → (k ≡ Const → ⊥) → (k ≡ Restrict → ⊥) → (k ≡ FuncProto → ⊥) → k ≡ TypeTag
-  is_tag w id n x t k h ex et ek l n₁ n₂ n₃ n₄ n₅ n₆ =
-      links_tag b s w x t et (chain_at b s w id (n - 1))
-      (ap only_links (sym (chain_top b s w id n (λ q. omega arith) ∙ ap (λ (y : ℕ). entry_of b s w y ∷ chain_at b s w id (n - 1)) (sym ex))) ∙ l)
-      k ek n₁ n₂ n₃ n₄ n₅ n₆
-
   -- ---- emit_based: x is the id of the base, t its record; n entries lead there, and m of them stay
   module _ (left id : ℕ) (fname : Name) (lvl : ℕ) (w txt : List ℕ) (at : Placed) (h : left ≡ 0 → ⊥) (x : ℕ) (t : Record) (et : t ≡ record_by_id b s w x) (n m : ℕ) (em : m ≡ skipped b s w id n)
       (a : Placed) (t₁ : List ℕ) (o₁ : put_out a t₁ ≡ put_text txt at (whole (mods_down b s w id m n))) (p : Placed) (t₂ w₂ : List ℕ)
@@ -146,10 +138,10 @@ module _ (b : TypeTable) (s : List ℕ) where
     unfolding entry_text
     says_star p t' e o = spelled_as star p t' w (entry_star_lem b s w x t et (sym ek ∙ e)) (put_only txt at _ w p t' o)
 
-    pub arm_star : (r : Stand) (p : ℕ) (t' : List ℕ) → k ≡ Ptr → Spelled (Ok p) t' w
+    pub arm_star : (r : Stand) (p : ℕ) (t' : List ℕ) → k ≡ Ptr → put_out (Ok p) t' ≡ put_text txt at (whole (star_text c.last_was_ptr))
         → r ≡ record { at = p; rest = Some (record { n = c.n - 1; last_was_ptr = true }) } → Printed b s below id fname lvl at c w txt (Ok r) t' w
     unfolding entry_star entry_named entry_left
-    arm_star r p t' e o er = entry_goes star r p (c.n - 1) t' w (entry_star_lem b s w x t et (sym ek ∙ e)) refl er o refl (omega arith)
+    arm_star r p t' e o er = entry_goes star r p (c.n - 1) t' w (entry_star_lem b s w x t et (sym ek ∙ e)) refl er (says_star (Ok p) t' e o) refl (omega arith)
 
     pub says_array : (n m : ℕ) (a : Placed) (t₁ w₁ : List ℕ) (p : Placed) (t₂ : List ℕ) → k ≡ Array → n ≡ nelems_word b s t → m ≡ skipped b s w id (c.n - 1)
         → out_of a t₁ w₁ ≡ put_said txt at (array_below (Q b s (T b s w)) (N b s) (T b s w) below fname lvl c.last_was_ptr (chain_at b s w id m) w)
@@ -161,9 +153,12 @@ module _ (b : TypeTable) (s : List ℕ) where
         (said_as txt at _ _ w a t₁ w₁ (ap (array_below (Q b s (T b s w)) (N b s) (T b s w) below fname lvl c.last_was_ptr) (no_mods_lem w id (c.n - 1) m em)) o₁)
         (put_only t₁ a _ w₁ p t₂ (o₂ ∙ ap (put_text t₁ a) (ap whole (ap brackets en)))))
 
-    pub arm_array : (r : Stand) (p : ℕ) (t' w' : List ℕ) → k ≡ Array → Spelled (Ok p) t' w' → r ≡ record { at = p; rest = None } → Printed b s below id fname lvl at c w txt (Ok r) t' w'
+    pub arm_array : (r : Stand) (n m : ℕ) (a : Placed) (t₁ w₁ : List ℕ) (p : ℕ) (t₂ : List ℕ) → k ≡ Array → n ≡ nelems_word b s t → m ≡ skipped b s w id (c.n - 1)
+        → out_of a t₁ w₁ ≡ put_said txt at (array_below (Q b s (T b s w)) (N b s) (T b s w) below fname lvl c.last_was_ptr (chain_at b s w id m) w)
+        → put_out (Ok p) t₂ ≡ put_text t₁ a (whole (brackets n)) → r ≡ record { at = p; rest = None } → Printed b s below id fname lvl at c w txt (Ok r) t₂ w₁
     unfolding entry_named
-    arm_array r p t' w' e o er = entry_stands (array (nelems_word b s t)) r p t' w' (entry_array b s w x t et (sym ek ∙ e)) refl er o
+    arm_array r n m a t₁ w₁ p t₂ e en em o₁ o₂ er =
+        entry_stands (array (nelems_word b s t)) r p t₂ w₁ (entry_array b s w x t et (sym ek ∙ e)) refl er (says_array n m a t₁ w₁ (Ok p) t₂ e en em o₁ o₂)
 
     qual_is : (k ≡ Volatile) ⊎ ((k ≡ Const) ⊎ (k ≡ Restrict)) → is_qualifier k ≡ true
     qual_is (inl e) = ap is_qualifier e
@@ -177,11 +172,13 @@ module _ (b : TypeTable) (s : List ℕ) where
         spelled_as (qual (qualifier_of (kind_named (kind_of t.info)))) p t₂ w (entry_qual b s w x t et (ap is_qualifier (sym ek) ∙ qual_is g))
         (put_only txt at _ w p t₂ (put_seq txt at _ _ a t₁ p t₂ o₁ (o₂ ∙ ap (λ (y : Kind). put_text t₁ a (whole (qualifier (qualifier_of y)))) ek)))
 
-    pub arm_qual : (r : Stand) (p : ℕ) (t' : List ℕ) → (k ≡ Volatile) ⊎ ((k ≡ Const) ⊎ (k ≡ Restrict)) → Spelled (Ok p) t' w
-        → r ≡ record { at = p; rest = Some (record { n = c.n - 1; last_was_ptr = false }) } → Printed b s below id fname lvl at c w txt (Ok r) t' w
+    pub arm_qual : (r : Stand) (a : Placed) (t₁ : List ℕ) (p : ℕ) (t₂ : List ℕ) → (k ≡ Volatile) ⊎ ((k ≡ Const) ⊎ (k ≡ Restrict))
+        → put_out a t₁ ≡ put_text txt at (whole (ascii " ")) → put_out (Ok p) t₂ ≡ put_text t₁ a (whole (qualifier (qualifier_of k)))
+        → r ≡ record { at = p; rest = Some (record { n = c.n - 1; last_was_ptr = false }) } → Printed b s below id fname lvl at c w txt (Ok r) t₂ w
     unfolding entry_star entry_named entry_left
-    arm_qual r p t' g o er =
-        entry_goes (qual (qualifier_of (kind_named (kind_of t.info)))) r p (c.n - 1) t' w (entry_qual b s w x t et (ap is_qualifier (sym ek) ∙ qual_is g)) refl er o refl (omega arith)
+    arm_qual r a t₁ p t₂ g o₁ o₂ er =
+        entry_goes (qual (qualifier_of (kind_named (kind_of t.info)))) r p (c.n - 1) t₂ w (entry_qual b s w x t et (ap is_qualifier (sym ek) ∙ qual_is g)) refl er
+        (says_qual a t₁ (Ok p) t₂ g o₁ o₂) refl (omega arith)
 
     pub says_proto : (p : Placed) (t' w' : List ℕ) → k ≡ FuncProto
         → out_of p t' w' ≡ put_said txt at ((put (mods (chain_at b s w id (c.n - 1))) ⨾ proto_below (Q b s (T b s w)) (N b s) (T b s w) below fname lvl c.last_was_ptr (no_mods (chain_at b s w id (c.n - 1))) ⨾ param_list_below (Q b s (T b s w)) (N b s) (T b s w) below fname lvl (params_of b s t)) w)
@@ -189,22 +186,36 @@ module _ (b : TypeTable) (s : List ℕ) where
     unfolding entry_text chain_at
     says_proto p t' w' e o = spelled_as (proto (params_of b s t)) p t' w' (entry_proto b s w x t et (sym ek ∙ e)) o
 
-    pub arm_proto : (r : Stand) (p : ℕ) (t' w' : List ℕ) → k ≡ FuncProto → Spelled (Ok p) t' w' → r ≡ record { at = p; rest = None } → Printed b s below id fname lvl at c w txt (Ok r) t' w'
+    pub arm_proto : (r : Stand) (p : ℕ) (t' w' : List ℕ) → k ≡ FuncProto
+        → out_of (Ok p) t' w' ≡ put_said txt at ((put (mods (chain_at b s w id (c.n - 1))) ⨾ proto_below (Q b s (T b s w)) (N b s) (T b s w) below fname lvl c.last_was_ptr (no_mods (chain_at b s w id (c.n - 1))) ⨾ param_list_below (Q b s (T b s w)) (N b s) (T b s w) below fname lvl (params_of b s t)) w)
+        → r ≡ record { at = p; rest = None } → Printed b s below id fname lvl at c w txt (Ok r) t' w'
     unfolding entry_named
-    arm_proto r p t' w' e o er = entry_stands (proto (params_of b s t)) r p t' w' (entry_proto b s w x t et (sym ek ∙ e)) refl er o
+    arm_proto r p t' w' e o er = entry_stands (proto (params_of b s t)) r p t' w' (entry_proto b s w x t et (sym ek ∙ e)) refl er (says_proto (Ok p) t' w' e o)
 
-    pub says_tag : (m : ℕ) (a : Placed) (t₁ : List ℕ) (p : Placed) (t₂ : List ℕ) → k ≡ TypeTag → m ≡ skipped b s w id (c.n - 1)
-        → put_out a t₁ ≡ put_text txt at (whole (mods_down b s w id m (c.n - 1))) → put_out p t₂ ≡ put_text t₁ a (whole (attribute (flag_of t.info) (ascii "btf_type_tag") (record_name b s t)))
-        → Spelled p t₂ w
-    unfolding entry_text
-    says_tag m a t₁ p t₂ e em o₁ o₂ =
-        spelled_as (tag (flag_of t.info) (record_name b s t)) p t₂ w (entry_tag b s w x t et (sym ek ∙ e))
-        (also txt at _ _ w a t₁ p t₂ w (put_mods b s w id txt at a t₁ m (c.n - 1) em o₁) (put_only t₁ a _ w p t₂ o₂))
+    -- an entry of no other kind that leads on is a type tag
+    module _ (l : only_links (chain_at b s w id c.n) ≡ true) (n₁ : k ≡ Ptr → ⊥) (n₂ : k ≡ Array → ⊥) (n₃ : k ≡ Volatile → ⊥) (n₄ : k ≡ Const → ⊥) (n₅ : k ≡ Restrict → ⊥) (n₆ : k ≡ FuncProto → ⊥) where
+      is_tag : kind_named (kind_of t.info) ≡ TypeTag
+      is_tag =
+          sym ek
+          ∙ links_tag b s w x t et below_top
+          (ap only_links (sym (chain_top b s w id c.n (λ q. omega arith) ∙ ap (λ (y : ℕ). entry_of b s w y ∷ below_top) (sym ex))) ∙ l)
+          k ek n₁ n₂ n₃ n₄ n₅ n₆
 
-    pub arm_tag : (r : Stand) (m p : ℕ) (t' : List ℕ) → k ≡ TypeTag → m ≡ skipped b s w id (c.n - 1) → m ≤ c.n - 1 → Spelled (Ok p) t' w
-        → r ≡ record { at = p; rest = Some (record { n = m; last_was_ptr = false }) } → Printed b s below id fname lvl at c w txt (Ok r) t' w
-    unfolding entry_star entry_named entry_left
-    arm_tag r m p t' e em g o er = entry_goes (tag (flag_of t.info) (record_name b s t)) r p m t' w (entry_tag b s w x t et (sym ek ∙ e)) refl er o (no_mods_lem w id (c.n - 1) m em) g
+      pub says_tag : (m : ℕ) (a : Placed) (t₁ : List ℕ) (p : Placed) (t₂ : List ℕ) → m ≡ skipped b s w id (c.n - 1)
+          → put_out a t₁ ≡ put_text txt at (whole (mods_down b s w id m (c.n - 1))) → put_out p t₂ ≡ put_text t₁ a (whole (attribute (flag_of t.info) (ascii "btf_type_tag") (record_name b s t)))
+          → Spelled p t₂ w
+      unfolding entry_text
+      says_tag m a t₁ p t₂ em o₁ o₂ =
+          spelled_as (tag (flag_of t.info) (record_name b s t)) p t₂ w (entry_tag b s w x t et is_tag)
+          (also txt at _ _ w a t₁ p t₂ w (put_mods b s w id txt at a t₁ m (c.n - 1) em o₁) (put_only t₁ a _ w p t₂ o₂))
+
+      pub arm_tag : (r : Stand) (m : ℕ) (a : Placed) (t₁ : List ℕ) (p : ℕ) (t₂ : List ℕ) → (m ≡ skipped b s w id (c.n - 1)) × (m ≤ c.n - 1)
+          → put_out a t₁ ≡ put_text txt at (whole (mods_down b s w id m (c.n - 1))) → put_out (Ok p) t₂ ≡ put_text t₁ a (whole (attribute (flag_of t.info) (ascii "btf_type_tag") (record_name b s t)))
+          → r ≡ record { at = p; rest = Some (record { n = m; last_was_ptr = false }) } → Printed b s below id fname lvl at c w txt (Ok r) t₂ w
+      unfolding entry_star entry_named entry_left
+      arm_tag r m a t₁ p t₂ em o₁ o₂ er =
+          entry_goes (tag (flag_of t.info) (record_name b s t)) r p m t₂ w (entry_tag b s w x t et is_tag) refl er
+          (says_tag m a t₁ (Ok p) t₂ em.0 o₁ o₂) (no_mods_lem w id (c.n - 1) m em.0) em.1
 
   -- ---- emit_function
   pub function_put : (below id : ℕ) (fname : Name) (lvl : ℕ) (p : Bool) (w txt : List ℕ) (at : Placed) (n m : ℕ) (a : Placed) (t₁ : List ℕ) (f : Placed) (t₂ w₂ : List ℕ) (r : Placed) (t₃ w₃ : List ℕ) (t : Record) (es : Entries)
@@ -239,9 +250,9 @@ module _ (b : TypeTable) (s : List ℕ) where
     word_enum (inl e) o = word_as Enum e (o ∙ of_enum b s t (λ str vs. put_said txt at (enum_text (N b s) B str id (record_name b s t) vs lvl u)) (is (kind_of t.info) k ek Enum e))
     word_enum (inr e) o = word_as Enum64 e (o ∙ of_enum64 b s t (λ str vs. put_said txt at (enum_text (N b s) B str id (record_name b s t) vs lvl u)) (is (kind_of t.info) k ek Enum64 e))
 
-    pub word_fwd : (f : Bool) → k ≡ Fwd → f ≡ flag_of t.info → out_of r t' u' ≡ put_said txt at (emit_fwd_def (N b s) B id f (record_name b s t) u) → Spoken
+    pub word_fwd : k ≡ Fwd → out_of r t' u' ≡ put_said txt at (emit_fwd_def (N b s) B id (flag_of t.info) (record_name b s t) u) → Spoken
     unfolding base_word
-    word_fwd f e ef o = word_as Fwd e (o ∙ ap (λ (q : Bool). put_said txt at (emit_fwd_def (N b s) B id q (record_name b s t) u)) ef)
+    word_fwd e o = word_as Fwd e o
 
     pub word_typedef : k ≡ Typedef → out_of r t' u' ≡ put_said txt at (resolve_type_name (N b s) ident_space id (record_name b s t) put u) → Spoken
     unfolding base_word
@@ -296,10 +307,10 @@ module _ (b : TypeTable) (s : List ℕ) where
     unfolding base_word
     composite_inline h o = rw (h, base_word) o
 
-    pub composite_named : (x : Bool) → is_empty name ≡ false → x ≡ is_struct → out_of r t' u' ≡ put_said txt at (emit_composite_fwd (N b s) B id x name u)
+    pub composite_named : is_empty name ≡ false → out_of r t' u' ≡ put_said txt at (emit_composite_fwd (N b s) B id is_struct name u)
         → out_of r t' u' ≡ put_said txt at (word_below (Q b s B) (N b s) B below lvl id (R.Composite is_struct name sz ms) u)
     unfolding base_word
-    composite_named x h e o = rw (h, base_word) (o ∙ ap (λ (q : Bool). put_said txt at (emit_composite_fwd (N b s) B id q name u)) e)
+    composite_named h o = rw (h, base_word) o
 
   -- ---- emit_array and emit_proto: n entries are left
   module _ (below id : ℕ) (fname : Name) (lvl : ℕ) (p : Bool) (w txt : List ℕ) (at : Placed) (n : ℕ) where

@@ -1,7 +1,7 @@
 -- What no version of a name and no alignment that is remembered changes: the table, and the chains in it. So emitters keep both. Assumes nothing.
 use Prim.Native.Nat.{ℕ, zero, suc, ◌+◌, ◌*◌}
 use mathlib.Core.Path.{◌≡◌, refl, ap, ap₂, ◌∙◌, sym, subst}
-use mathlib.Core.Bool.{Bool, true, false}
+use mathlib.Core.Bool.{Bool, true, false, false≢true}
 use mathlib.Core.List.{List, ◌∷◌}
 use native.Mathlib.Omega.{arith}
 use lib.Dec.{ltb, leb, eqb}
@@ -22,7 +22,6 @@ use Rattle.spec_type_table.specs.Records.{record_by_id}
 use Rattle.spec_type_table.specs.Table.{type_of, btf_of, work_naming, type_version_in, value_version_in, enumerator_of}
 use Rattle.spec_type_table.proofs.Frame.{field_other, count_0, record_same, counted_other, table_type_version, table_value_version}
 use Rattle.c_dumper_bodies.specs.chain.Chains.{next_of, entry_of, path_at, chain_at, only_links}
-use Rattle.c_dumper_bodies.proofs.chain.Linked.{false_true}
 use Rattle.spec_c_dumper.specs.alignment_once.Once.{Remembered as Alignment, Once, found, refused, memory_after, member_count}
 use Rattle.btf_layout.specs.remembered.Words.{coded, with_visits as visited, remembered, work_keep}
 use Rattle.btf_layout.proofs.remembered.Keeps.{table_keeps}
@@ -45,7 +44,7 @@ module _ {U : Type 0} where
   names_same : (u v : U) (t : List ℕ) (n : ℕ) (q : Out) → with_names u (done t n) ≡ with_names v q → u ≡ v
   unfolding with_names names_of is_wrote
   names_same u v t n (done t₁ k) e = ap (names_of u) e
-  names_same u v t n (stopped c) e = absurd (false_true (sym (ap is_wrote e)))
+  names_same u v t n (stopped c) e = absurd (false≢true (sym (ap is_wrote e)))
 
   names_left : (t : List ℕ) (at : Placed) (s : Said U) (n : ℕ) (t' : List ℕ) (u' : U) → out_of (Ok n) t' u' ≡ put_said t at s → u' ≡ said_names s
   unfolding out_of put_out put_said said_names

@@ -6,24 +6,14 @@ use mathlib.Core.List.{List, [], ◌∷◌, ◌++◌, append_assoc}
 use native.Mathlib.Omega.{arith}
 use borrow.Author.Tests.{ne_eqb}
 use Rattle.spec_bytes.specs.text.Text.{ascii, pfx, join}
-use Rattle.spec_c_dumper.specs.rules.Writer.{Ask, got, no, ask_then, Writer, after, next, ◌⨾◌, put, given}
+use Rattle.spec_c_dumper.specs.rules.Writer.{Ask, got, Writer, after, next, ◌⨾◌, put, given}
 use Rattle.spec_c_dumper.specs.rules.Types.{Name, Member, Btf}
-use Rattle.spec_c_dumper.proofs.alignment_once.Right.{no_got}
 use Rattle.spec_c_dumper.specs.rules.Names.{Naming}
 use Rattle.spec_c_dumper.specs.rules.Layout.{Pad, bit_padding, end_of}
 use Rattle.spec_c_dumper.specs.rules.Decl.{pads, own_line, tail_text, bit_size_of, emit_decl_tags, emit_members}
 use Rattle.spec_c_dumper.specs.rules.SystemV.{Line, field, pad_lines, body_lines, write_lines}
+use Rattle.spec_c_dumper.proofs.rules.Asking.{then_got}
 use Rattle.c_dumper_declarator.proofs.declarations.Sequences.{then_assoc, nothing_then, then_nothing}
-
-record Then {A C : Type 0} (x : Ask A) (k : A → Ask C) (c : C) : Type 0 where
-  value : A
-  first : x ≡ got value
-  rest : k value ≡ got c
-
-then_got : {A C : Type 0} (x : Ask A) (k : A → Ask C) (c : C) → ask_then x k ≡ got c → Then x k c
-unfolding ask_then
-then_got (got a) k c e = record { value = a; first = refl; rest = e }
-then_got (no r) k c e = absurd (no_got r c e)
 
 module _ {U : Type 0} where
   given_got : {A : Type 0} (x : Ask A) (k : A → Writer U) (a : A) → x ≡ got a → given x k ≡ k a

@@ -2,7 +2,7 @@
 use Prim.Native.Nat.{ℕ, suc, ◌+◌, ◌-◌, ◌<◌, ◌≤◌}
 use mathlib.Core.Path.{◌≡◌, ap, ap₂, ◌∙◌, sym, subst}
 use mathlib.Core.Bool.{Bool, true, false, ◌&&◌}
-use mathlib.Core.List.{List, [], ◌∷◌}
+use mathlib.Core.List.{List, []}
 use native.Mathlib.Omega.{arith}
 use lib.Dec.{eqb, leb}
 use borrow.Author.Tests.{ne_eqb, le-leb, lt-leb}
@@ -45,30 +45,21 @@ use Rattle.c_dumper_bodies.proofs.bodies.BodyLaws.{also}
 use Rattle.c_dumper_declarator.proofs.declarations.Kept.{Seen, seen, keeps_type, keeps_value, keeps_padding, keeps_body, body_seen, then_on, Leads, leads_end, leads_turn, leads_halt}
 use Rattle.c_dumper_declarator.proofs.declarations.Keeping.{said_as, N, Q, T, KeptBy, kept_decl, kept_word, kept_param, kept_pads, kept_member}
 use mathlib.Core.Logic.{⊎_elim}
+use Rattle.std.proofs.lemmas.Bool.{cases_lt}
 use Rattle.spec_type_table.specs.declared.types.BtfMember.{BtfMember}
 use Rattle.c_dumper_name_versions.specs.declared.names.versions.Name.{Name as Printing}
 use Rattle.c_dumper_name_versions.specs.names.Spelling.{name_text}
 use Rattle.c_dumper_name_versions.proofs.names.Spellings.{bare_text}
 use Rattle.c_dumper_bodies.specs.declared.bodies.bodies.Spot.{Spot}
-use Rattle.spec_bytes.proofs.words.Laws.{le_or_lt}
-
--- lists by their first: what is left of n from the k-th on
-module _ {E : Type 0} (f : ℕ → E) (k n : ℕ) where
-  pub from_more : k < n → from f k (n - k) ≡ f k ∷ from f (k + 1) (n - (k + 1))
-  unfolding from
-  from_more h = let e : n - k ≡ suc (n - (k + 1)) = omega arith in rw e
-
-  pub from_none : n ≤ k → from f k (n - k) ≡ []
-  unfolding from
-  from_none h = let e : n - k ≡ 0 = omega arith in rw e
+use Rattle.c_dumper_bodies.proofs.enumerators.Values.{from_more, from_none}
 
 no_more : (f : ℕ → Param) (k n : ℕ) → k < n → no_params (from f (k + 1) (n - (k + 1))) ≡ leb n (k + 1)
 unfolding from
 no_more f k n h =
     ⊎_elim
-    (λ l. let e : n - (k + 1) ≡ 0 = omega arith in rw (e, le-leb n (k + 1) l))
     (λ l. let e : n - (k + 1) ≡ suc (n - (k + 2)) = omega arith in rw (e, lt-leb n (k + 1) l))
-    (le_or_lt n (k + 1))
+    (λ l. let e : n - (k + 1) ≡ 0 = omega arith in rw (e, le-leb n (k + 1) l))
+    (cases_lt (k + 1) n)
 
 module _ (b : TypeTable) (s : List ℕ) where
   -- ---- emit_param

@@ -2,13 +2,9 @@
 -- Assumes nothing.
 use Prim.Native.Nat.{ℕ}
 use mathlib.Core.Path.{◌≡◌, refl, ap}
-use mathlib.Core.List.{List, [], ◌∷◌, ◌++◌, append_assoc}
+use mathlib.Core.List.{List, [], ◌++◌, append_assoc, append-nil}
 use Rattle.spec_bytes.specs.text.Text.{Text, whole, cut, join}
 use Rattle.spec_c_dumper.specs.rules.Writer.{Said, said, Writer, after, next, put, stop, nothing, ◌⨾◌}
-
-append_none : (a : List ℕ) → a ++ [] ≡ a
-append_none [] = refl
-append_none (x ∷ a) = ap (λ (l : List ℕ). x ∷ l) (append_none a)
 
 join_assoc : (a b : List ℕ) (t : Text) → join (whole (a ++ b)) t ≡ join (whole a) (join (whole b) t)
 unfolding join
@@ -45,7 +41,7 @@ module _ {U : Type 0} where
 
   next_nothing : (s : Said U) → next s nothing ≡ s
   unfolding next put after join
-  next_nothing (said u (whole a)) = ap (λ (l : List ℕ). said u (whole l)) (append_none a)
+  next_nothing (said u (whole a)) = ap (λ (l : List ℕ). said u (whole l)) (append-nil a)
   next_nothing (said u (cut a c)) = refl
 
   pub then_nothing : (w : Writer U) → w ⨾ nothing ≡ w

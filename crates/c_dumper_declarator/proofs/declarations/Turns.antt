@@ -1,5 +1,5 @@
 -- A loop of the rules is its first turn and then the rest; the three with a depth, unrolled. Assumes nothing.
-use Prim.Native.Nat.{ℕ, zero, suc, zero-le, ◌+◌, ◌-◌, ◌≤◌}
+use Prim.Native.Nat.{ℕ, zero, suc, ◌+◌, ◌-◌, ◌≤◌}
 use mathlib.Core.Path.{◌≡◌, refl, ap, ◌∙◌, sym}
 use mathlib.Core.Bool.{Bool, true, false}
 use mathlib.Core.List.{List, [], ◌∷◌}
@@ -12,18 +12,9 @@ use Rattle.spec_c_dumper.specs.rules.Names.{Naming}
 use Rattle.spec_c_dumper.specs.rules.Layout.{Pad, end_of}
 use Rattle.spec_c_dumper.specs.rules.Decl.{Entry, base, star, qual, array, proto, tag, no_mods, no_params, emit_name, pads, bit_size_of, emit_decl_tags, emit_params, chain_of, base_word, chain_loop}
 use Rattle.spec_c_dumper.specs.alignment_once.Writers.{Asks, given_once, emit_members_once, composite_def_once, emit_type_decl_once, emit_type_chain_once, emit_composite_def_once}
+use Rattle.spec_c_dumper.proofs.rules.Chains.{no_mods_length}
 use Rattle.c_dumper_bodies.specs.bodies.Pieces.{entry_left, entry_star, entry_named, star_text, word_below, loop_below, entry_text, chain_rest, param_text, member_tail, member_text, members_below, end_from, comma}
 use Rattle.c_dumper_declarator.proofs.declarations.Sequences.{then_assoc, then_nothing, stop_then}
-
-no_mods_length : (c : List Entry) → length (no_mods c) ≤ length c
-unfolding no_mods
-no_mods_length [] = zero-le
-no_mods_length (base x ∷ c) = omega arith
-no_mods_length (star ∷ c) = omega arith
-no_mods_length (qual q ∷ c) = let h : length (no_mods c) ≤ length c = no_mods_length c in omega arith
-no_mods_length (array n ∷ c) = omega arith
-no_mods_length (proto ps ∷ c) = omega arith
-no_mods_length (tag a n ∷ c) = omega arith
 
 module _ {U : Type 0} (Q : Asks U) (N : Naming U) (B : Btf) (below : ℕ) (fname : Name) (lvl : ℕ) where
   -- the loop ends by itself: any number of turns that is no less than the entries gives the same

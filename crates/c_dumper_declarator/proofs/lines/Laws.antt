@@ -151,13 +151,10 @@ module _ (b : TypeTable) (s : List ℕ) (B : Rules) (at : Placed) (tx w : List �
         (e ∙ of_enum64 b s t (λ str vs. put_said tx at (emit_enum_def (work_naming b) B str id (str_at b s t.name_off) vs 0 w)) (is (kind_of t.info) k ek Enum64 q)) f
         ∙ defined_as Enum64 q
 
-    pub define_fwd : k ≡ Fwd → (u : Bool) → u ≡ flag_of t.info → (a : Placed) (t₁ w₁ : List ℕ) → out_of a t₁ w₁ ≡ put_said tx at (emit_fwd_def (work_naming b) B id u (str_at b s t.name_off) w)
+    pub define_fwd : k ≡ Fwd → (a : Placed) (t₁ w₁ : List ℕ) → out_of a t₁ w₁ ≡ put_said tx at (emit_fwd_def (work_naming b) B id (flag_of t.info) (str_at b s t.name_off) w)
         → (r : Placed) (t₂ : List ℕ) → put_out r t₂ ≡ put_text t₁ a (whole (ascii ";\n\n")) → Defines r t₂ w₁
     unfolding definition_once
-    define_fwd q u eu a t₁ w₁ e r t₂ f =
-        ended (emit_fwd_def (work_naming b) B id u (str_at b s t.name_off)) a t₁ w₁ r t₂ e f
-        ∙ ap (λ (x : Bool). put_said tx at (definition_once (work_asks b.types B) (work_naming b) B id (R.Fwd x (record_name b s t)) w)) eu
-        ∙ defined_as Fwd q
+    define_fwd q a t₁ w₁ e r t₂ f = ended (emit_fwd_def (work_naming b) B id (flag_of t.info) (str_at b s t.name_off)) a t₁ w₁ r t₂ e f ∙ defined_as Fwd q
 
     pub define_none : (k ≡ Struct → ⊥) → (k ≡ Union → ⊥) → (k ≡ Enum → ⊥) → (k ≡ Enum64 → ⊥) → (k ≡ Fwd → ⊥) → Defines at tx w
     define_none n₁ n₂ n₃ n₄ n₅ = put_nothing tx at w ∙ none_defined k n₁ n₂ n₃ n₄ n₅ ∙ defined_as k refl
@@ -165,17 +162,16 @@ module _ (b : TypeTable) (s : List ℕ) (B : Rules) (at : Placed) (tx w : List �
     pub forward_builtin : (y : Bool) → y ≡ builtin (str_at b s t.name_off) → y ≡ true → Forwards at tx w
     forward_builtin y ey e = put_nothing tx at w ∙ builtin_none (kind_named (kind_of t.info)) (sym ey ∙ e) ∙ forward_as _ ek
 
-    pub forward_composite : (y : Bool) → y ≡ builtin (str_at b s t.name_off) → y ≡ false → (k ≡ Struct) ⊎ (k ≡ Union) → (st : Bool) → st ≡ eqb (kind_of t.info) 4 → (a : Placed) (t₁ w₁ : List ℕ)
-        → out_of a t₁ w₁ ≡ put_said tx at (emit_composite_fwd (work_naming b) B id st (str_at b s t.name_off) w)
+    pub forward_composite : (y : Bool) → y ≡ builtin (str_at b s t.name_off) → y ≡ false → (k ≡ Struct) ⊎ (k ≡ Union) → (a : Placed) (t₁ w₁ : List ℕ)
+        → out_of a t₁ w₁ ≡ put_said tx at (emit_composite_fwd (work_naming b) B id (eqb (kind_of t.info) 4) (str_at b s t.name_off) w)
         → (r : Placed) (t₂ : List ℕ) → put_out r t₂ ≡ put_text t₁ a (whole (ascii ";\n\n")) → Forwards r t₂ w₁
     unfolding forward_once shown
-    forward_composite y ey ef g st es a t₁ w₁ e r t₂ f =
-        composite_is g (λ z. st ≡ z → Forwards r t₂ w₁)
-        (λ z u v. ended (emit_composite_fwd (work_naming b) B id st (str_at b s t.name_off)) a t₁ w₁ r t₂ e f
-        ∙ ap (λ (x : Bool). put_said tx at ((emit_composite_fwd (work_naming b) B id x (str_at b s t.name_off) ⨾ put (ascii ";\n\n")) w)) v
+    forward_composite y ey ef g a t₁ w₁ e r t₂ f =
+        composite_is g (λ z. out_of a t₁ w₁ ≡ put_said tx at (emit_composite_fwd (work_naming b) B id z (str_at b s t.name_off) w) → Forwards r t₂ w₁)
+        (λ z u q. ended (emit_composite_fwd (work_naming b) B id z (str_at b s t.name_off)) a t₁ w₁ r t₂ q f
         ∙ ap (λ (x : Bool). put_said tx at (select x (emit_composite_fwd (work_naming b) B id z (str_at b s t.name_off) ⨾ put (ascii ";\n\n")) w)) (sym (sym ey ∙ ef))
         ∙ ap (λ (x : BtfType). put_said tx at (forward_once (work_asks b.types B) (work_naming b) B id x w)) (sym u))
-        es
+        e
 
     pub forward_typedef : (y : Bool) → y ≡ builtin (str_at b s t.name_off) → y ≡ false → k ≡ Typedef → (a : Placed) (t₁ w₁ : List ℕ)
         → out_of a t₁ w₁ ≡ put_said tx at (emit_typedef_def_once (work_asks b.types B) (work_naming b) B id (str_at b s t.name_off) t.type_id w)

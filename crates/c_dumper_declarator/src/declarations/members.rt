@@ -21,7 +21,7 @@ use c_dumper_bodies::bodies::{
     Body, Spot, emit_composite_end, emit_composite_head, emit_member_end,
 };
 use c_dumper_bodies::enumerators::deeper;
-use c_dumper_name_versions::names::bare;
+use c_dumper_name_versions::names::Name;
 use c_dumper_padding::padding::{emit_bit_padding, emit_tail_padding};
 use c_dumper_padding::placing::body_packed;
 
@@ -106,7 +106,7 @@ fn emit_member(
     let lvl = deeper(body.lvl);
     let d = Declarator {
         id: m.type_id,
-        name: bare(m.name_off),
+        name: Name::bare(m.name_off),
         lvl,
     };
     let a = emit_bit_padding(b, work, text, s.at, s.offset, m, body.packed, lvl)?;

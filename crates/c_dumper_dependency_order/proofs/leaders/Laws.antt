@@ -11,7 +11,7 @@ use Rattle.std.proofs.Math.ListN.{get_or-map}
 use Rattle.std.proofs.lemmas.List.{map-set, length-map}
 use Rattle.c_dumper_dependency_order.specs.declared.leaders.Way.{Way}
 use Rattle.c_dumper_dependency_order.specs.declared.leaders.Lead.{Lead}
-use Rattle.c_dumper_dependency_order.specs.leaders.Leads.{lead_word, lead_words, led_two, inside_of, word_at, is_noted, note_in, leader_in}
+use Rattle.c_dumper_dependency_order.specs.leaders.Leads.{lead_word, lead_words, led_two, word_at, is_noted, note_in, leader_in}
 
 pub led_same : (v : Way) (x : ℕ) → v.inner ≡ x → v.lead ≡ led_two v x
 unfolding led_two
@@ -20,9 +20,6 @@ led_same v x e = rw (eq-eqb v.inner x e, led_two)
 pub led_other : (v : Way) (x : ℕ) → (v.inner ≡ x → ⊥) → v.inner ≡ led_two v x
 unfolding led_two
 led_other v x n = rw (ne_eqb v.inner x n, led_two)
-
-pub inside_is : (v : Way) (x d : ℕ) → d ≡ led_two v x → ◌≡◌ {A = Way} (record { inner = x; lead = d; turn = v.turn }) (inside_of v x)
-inside_is v x d e = λ i. record { inner = x; lead = e i; turn = v.turn }
 
 -- ---- the leaders of the code as numbers
 module _ (l : List Lead) (i : ℕ) where

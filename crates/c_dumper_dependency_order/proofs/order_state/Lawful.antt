@@ -5,13 +5,13 @@ use mathlib.Core.List.{List, [], ◌∷◌, ◌++◌}
 use mathlib.Core.Logic.{◌≢◌}
 use native.Mathlib.Omega.{arith}
 use lib.ListN.{length}
-use borrow.Author.Tests.{lt-ltb}
 use Rattle.spec_bytes.specs.words.Words.{get_word, one_more}
-use Rattle.spec_bytes.proofs.words.Laws.{get_put_same, get_put_other, put_length}
+use Rattle.spec_bytes.proofs.words.Laws.{get_put_same, get_put_other, put_length, more_is}
 use Rattle.spec_c_dumper.specs.rules.Order.{Mark, new, busy, done, Lawful, Framed}
 use Rattle.spec_type_table.specs.declared.types.TypeTable.{TypeTable}
 use Rattle.spec_type_table.specs.Cells.{get_field, put_field}
 use Rattle.spec_type_table.specs.Table.{from, btf_of}
+use Rattle.spec_type_table.proofs.Laws.{length_from}
 use Rattle.c_dumper_dependency_order.specs.order_state.Work.{Marks, mark_of, code, work_store}
 use Rattle.c_dumper_dependency_order.proofs.order_state.Frame.{table_mark, table_list}
 
@@ -19,17 +19,11 @@ use Rattle.c_dumper_dependency_order.proofs.order_state.Frame.{table_mark, table
 abbrev pub Long : ℕ → Marks → Type 0
 Long n m = 64 * n ≤ length m.work
 
-mark_code : (k : Mark) → mark_of (code k) ≡ k
+pub mark_code : (k : Mark) → mark_of (code k) ≡ k
 unfolding mark_of
 mark_code new = refl
 mark_code busy = refl
 mark_code done = refl
-
--- the list: as many as there are, one more at its end, and a function that is the same below the end
-from_length : (f : ℕ → ℕ) (k n : ℕ) → length (from f k n) ≡ n
-unfolding from
-from_length f k zero = refl
-from_length f k (suc n) = ap suc (from_length f (k + 1) n)
 
 from_end : (f : ℕ → ℕ) (k n : ℕ) → from f k (suc n) ≡ from f k n ++ (f (k + n) ∷ [])
 unfolding from
@@ -40,10 +34,6 @@ from_same : (f g : ℕ → ℕ) (k n : ℕ) → ((i : ℕ) → k ≤ i → i < k
 unfolding from
 from_same f g k zero h = refl
 from_same f g k (suc n) h = λ i. h k (omega arith) (omega arith) i ∷ from_same f g (k + 1) n (λ j p q. h j (omega arith) (omega arith)) i
-
-more_is : (n : ℕ) → n < 4294967295 → one_more n ≡ n + 1
-unfolding one_more
-more_is n h = rw (lt-ltb n 4294967295 h)
 
 module _ (n : ℕ) where
   module _ (k : Mark) (x : ℕ) (m : Marks) where
@@ -75,7 +65,7 @@ module _ (n : ℕ) where
     push_adds : n ≤ 4294967295 → Long n m → length (work_store.list m) < n → work_store.list (work_store.push x m) ≡ work_store.list m ++ (x ∷ [])
     unfolding work_store
     push_adds small g r =
-        let room : m.len < n = omega (arith, from_length (λ k. get_field m.work k 11) 0 m.len) in
+        let room : m.len < n = omega (arith, length_from (λ k. get_field m.work k 11) 0 m.len) in
         let one : one_more m.len ≡ suc m.len = more_is m.len (omega arith) ∙ omega arith in
         let here : 0 + m.len ≡ m.len = omega arith in
         ap (from new_at 0) one

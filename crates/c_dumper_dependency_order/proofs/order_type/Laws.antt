@@ -68,19 +68,20 @@ done_at : (o : Order) (w l : List ℕ) (v : Way) (id : ℕ) (s : Bool) (w' : Lis
     → kept_out (Ok r) w' l ≡ told ((kept_store v).mark done id (kept_of o w l)) s o.made
 done_at o w l v id s w' r ew er = flagged o w' l s r er ∙ ap (λ (m : MarksAndLeaders). told m s o.made) (marked o w l v done id w' ew)
 
+pub finish_bare : (o : Order) (w l : List ℕ) (id : ℕ) (v : Way) (s : Bool) (r : Order) (w₂ : List ℕ) → w₂ ≡ put_field w id 1 2 → r ≡ strong_of o s
+    → kept_out (Ok r) w₂ l ≡ told (finish (kept_store v) false id (kept_of o w l)) s o.made
+unfolding push_if
+finish_bare o w l id v s r w₂ ew er = done_at o w l v id s w₂ r ew er
+
 pub finish_listed : (o : Order) (w l : List ℕ) (id : ℕ) (v : Way) (lists s : Bool) (p : Order) (w₁ l₁ : List ℕ) (r : Order) (w₂ : List ℕ) → lists ≡ true
-    → kept_out (Ok p) w₁ l₁ ≡ told ((kept_store v).push id (kept_of o w l)) o.is_strong o.made → w₂ ≡ put_field w₁ id 1 2 → r ≡ strong_of p s
+    → kept_out (Ok p) w₁ l₁ ≡ told ((kept_store v).push id (kept_of o w l)) o.is_strong o.made
+    → kept_out (Ok r) w₂ l₁ ≡ told (finish (kept_store v) false id (kept_of p w₁ l₁)) s p.made
     → kept_out (Ok r) w₂ l₁ ≡ told (finish (kept_store v) lists id (kept_of o w l)) s o.made
 unfolding kept_out then_bind push_if
-finish_listed o w l id v lists s p w₁ l₁ r w₂ t e ew er =
-    done_at p w₁ l₁ v id s w₂ r ew er
+finish_listed o w l id v lists s p w₁ l₁ r w₂ t e f =
+    f
     ∙ ap (λ (x : Told MarksAndLeaders). then_bind x (λ m _ j. told ((kept_store v).mark done id m) s j)) e
     ∙ ap (λ (q : Bool). told (finish (kept_store v) q id (kept_of o w l)) s o.made) (sym t)
-
-pub finish_bare : (o : Order) (w l : List ℕ) (id : ℕ) (v : Way) (lists s : Bool) (r : Order) (w₂ : List ℕ) → lists ≡ false → w₂ ≡ put_field w id 1 2 → r ≡ strong_of o s
-    → kept_out (Ok r) w₂ l ≡ told (finish (kept_store v) lists id (kept_of o w l)) s o.made
-unfolding push_if
-finish_bare o w l id v lists s r w₂ t ew er = done_at o w l v id s w₂ r ew er ∙ ap (λ (q : Bool). told (finish (kept_store v) q id (kept_of o w l)) s o.made) (sym t)
 
 -- ---- a typedef
 module _ (o : Order) (w l : List ℕ) (id : ℕ) (weak : Bool) (v : Way) (r : Order) where
@@ -308,9 +309,6 @@ pub record Rest (lim : Limit) (b : TypeTable) (s : List ℕ) (w₀ l₀ : List �
 module _ (lim : Limit) (b : TypeTable) (s : List ℕ) (w₀ l₀ : List ℕ) (left : ℕ) (weak : Bool) (v : Way) (id : ℕ → ℕ) (o : Order) (vlen : ℕ) where
   abbrev f : MarksAndLeaders → ℕ → ℕ → Told MarksAndLeaders
   f = way_kept lim v (table_in b s w₀) left weak
-
-  pub rest_start : Rest lim b s w₀ l₀ left weak v id o vlen o w₀ l₀ 0
-  rest_start = record { whole = (let d : vlen ≡ vlen - 0 = omega arith in ap (λ (n : ℕ). each_within f (from id 0 n) (kept_of o w₀ l₀) o.is_strong o.made) d); table = refl }
 
   module _ (r : Order) (w l : List ℕ) (k : ℕ) (inv : Rest lim b s w₀ l₀ left weak v id o vlen r w l k) where
     module _ (h : k < vlen) (y : ℕ) (ey : y ≡ id k) where

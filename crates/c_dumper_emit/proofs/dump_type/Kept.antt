@@ -8,7 +8,7 @@ use native.Mathlib.Omega.{arith}
 use lib.Dec.{eqb, leb}
 use lib.ListN.{length, get_or, replicate, length-replicate, get_or-replicate, get_or-eq_default}
 use borrow.Author.Tests.{le-leb}
-use Rattle.spec_bytes.proofs.words.Laws.{le_or_lt}
+use Rattle.std.proofs.lemmas.Bool.{cases_lt}
 use Rattle.spec_c_dumper.specs.rules.Order.{Node, ignored, plain, listed, through, ptr, tdef, proto, comp, Table, Res, ok, refused}
 use Rattle.spec_c_dumper.specs.ceiling.Ceiling.{Limit, unbounded, Told, told, halted}
 use Rattle.spec_c_dumper.specs.rules.Machine.{Out, wrote, stuck, obind, eeach}
@@ -69,7 +69,7 @@ with_is l (stuck c) k e = absurd (let z : ◌≡◌ {A = ℕ} 0 1 = cc in omega 
 zeros_before : (n : ℕ) (l : List ℕ) → l ≡ replicate n 0 → Before 1 l
 unfolding Before word_at
 zeros_before n l e x =
-    let z : ◌≡◌ {A = ℕ} (get_or (replicate n 0) x 0) 0 = ⊎_elim (λ h. get_or-eq_default (replicate n 0) 0 (subst (λ (i : ℕ). i ≤ x) (sym (length-replicate n 0)) h)) (λ h. get_or-replicate n x 0 0 h) (le_or_lt n x) in
+    let z : ◌≡◌ {A = ℕ} (get_or (replicate n 0) x 0) 0 = ⊎_elim (λ h. get_or-replicate n x 0 0 h) (λ h. get_or-eq_default (replicate n 0) 0 (subst (λ (i : ℕ). i ≤ x) (sym (length-replicate n 0)) h)) (cases_lt x n) in
     subst (λ (k : ℕ). k / 4294967296 < 1) (sym (ap (λ (u : List ℕ). get_or u x 0) e ∙ z)) (omega arith)
 
 no_leads_lem : no_leads ≡ replicate 262145 0
@@ -200,4 +200,4 @@ past_plain b s w x h = ap (λ (r : Record). node_of (type_of b s r)) (past_recor
 
 pub few_types : (b : TypeTable) (s w : List ℕ) → b.types ≤ 262145 → Few (btf_of b s w)
 unfolding btf_of
-few_types b s w h x e = ⊎_elim (λ l. absurd (true≢false (sym e ∙ ap is_listed (past_plain b s w x l)))) (λ l. omega arith) (le_or_lt b.types x)
+few_types b s w h x e = ⊎_elim (λ l. omega arith) (λ l. absurd (true≢false (sym e ∙ ap is_listed (past_plain b s w x l)))) (cases_lt x b.types)

@@ -7,6 +7,7 @@ use mathlib.Core.Logic.{◌≢◌}
 use native.Mathlib.Omega.{arith}
 use lib.Dec.{eqb}
 use lib.ListN.{length, get_or, set, length-set}
+use lib.Seq.{get_or-set_same, get_or-set_other}
 use borrow.Author.Tests.{eqb-true, eqb-false, eq-eqb, ne_eqb}
 use Rattle.spec_c_dumper.specs.rules.Order.{Table}
 use Rattle.c_dumper_dependency_order.specs.order_state.Work.{Marks, work_store}
@@ -86,18 +87,6 @@ module _ (m : Sheet) (req : ℕ) where
       (λ s' y f. order_led sheet_store req n T (inside (is_around (T.node x)) x around) s' y f) (λ s' y f. lift_led n T (inside (is_around (T.node x)) x around) s' y f) (work_store.get s.state x)
 
 -- ---- what the words say
-get_same : (l : List ℕ) (i a : ℕ) → i < length l → get_or (set l i a) i 0 ≡ a
-get_same [] i a h = absurd (omega arith)
-get_same (y ∷ l) zero a h = refl
-get_same (y ∷ l) (suc i) a h = get_same l i a (omega arith)
-
-get_other : (l : List ℕ) (i j a : ℕ) → j ≢ i → get_or (set l i a) j 0 ≡ get_or l j 0
-get_other [] i j a h = refl
-get_other (y ∷ l) zero zero a h = absurd (h refl)
-get_other (y ∷ l) zero (suc j) a h = refl
-get_other (y ∷ l) (suc i) zero a h = refl
-get_other (y ∷ l) (suc i) (suc j) a h = get_other l i j a (λ e. h (ap suc e))
-
 -- what a note needs: room for the id, and a leader that a word holds
 pub record Fits (n : ℕ) (p : ℕ × ℕ) : Type 0 where
   pub id_fits : p.0 < n
@@ -118,7 +107,7 @@ module _ (req turn : ℕ) where
     where
       go : (c : Bool) → get_or (elim c as (λ z. List ℕ) [ true ↦ l | false ↦ set l p.0 (turn * 4294967296 + p.1) ]) x 0 ≡ get_or l x 0
       go true = refl
-      go false = get_other l p.0 x (turn * 4294967296 + p.1) h
+      go false = get_or-set_other l p.0 x (turn * 4294967296 + p.1) 0 h
 
   -- an id that was noted before
   note_again : (l : List ℕ) (p : ℕ × ℕ) → is_noted turn l p.0 ≡ true → note_of turn l p ≡ l
@@ -127,7 +116,7 @@ module _ (req turn : ℕ) where
 
   note_first : (l : List ℕ) (p : ℕ × ℕ) → Fits (length l) p → is_noted turn l p.0 ≡ false → word_at (note_of turn l p) p.0 ≡ turn * 4294967296 + p.1
   unfolding note_of word_at
-  note_first l p f e = ap (λ (c : Bool). get_or (elim c as (λ z. List ℕ) [ true ↦ l | false ↦ set l p.0 (turn * 4294967296 + p.1) ]) p.0 0) e ∙ get_same l p.0 (turn * 4294967296 + p.1) f.id_fits
+  note_first l p f e = ap (λ (c : Bool). get_or (elim c as (λ z. List ℕ) [ true ↦ l | false ↦ set l p.0 (turn * 4294967296 + p.1) ]) p.0 0) e ∙ get_or-set_same l p.0 (turn * 4294967296 + p.1) 0 f.id_fits
 
   by_word : (l l' : List ℕ) (x : ℕ) → word_at l' x ≡ word_at l x → is_noted turn l' x ≡ is_noted turn l x
   unfolding is_noted

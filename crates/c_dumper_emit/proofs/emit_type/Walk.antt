@@ -1,5 +1,5 @@
 -- The walk of emission with entries, an id that is not emitted yet: what each return comes to. Assumes nothing.
-use Prim.Native.Nat.{ℕ, ◌+◌, ◌-◌, ◌*◌, ◌<◌}
+use Prim.Native.Nat.{ℕ}
 use mathlib.Core.Path.{◌≡◌, refl, ap, ◌∙◌, sym, subst}
 use mathlib.Core.List.{List}
 use mathlib.Core.Bool.{Bool, true, false, not, ◌&&◌, ◌||◌, true≢false}
@@ -28,25 +28,6 @@ use Rattle.c_dumper_emit.specs.entries.Noted.{Lent, noted_out, line_n, mach_n, e
 use Rattle.c_dumper_emit.proofs.entries.Frame.{Stays, stays_then, table_each}
 use Rattle.c_dumper_emit.proofs.entries.Laws.{Penned, with_n, obind_then, obind_wrote, obind_same, then, work_sheet, same_table, entry_stays, called_stays}
 use Rattle.c_dumper_emit.proofs.entries.Walk.{once_fwd, once_alias, zero_is}
-
--- ---- the measures: a call's is below its caller's
-pub to_composite_entries : (l t : ℕ) → 4 * l + 2 ≡ t → 4 * l + 1 < t
-to_composite_entries l t e = omega arith
-
-pub to_new_entries : (l t : ℕ) → 4 * l + 3 ≡ t → 4 * l + 1 < t
-to_new_entries l t e = omega arith
-
-pub to_new_composite : (l t : ℕ) → 4 * l + 3 ≡ t → 4 * l + 2 < t
-to_new_composite l t e = omega arith
-
-pub to_new_type : (l t : ℕ) → 4 * l + 3 ≡ t → 4 * l < t
-to_new_type l t e = omega arith
-
-pub to_loop_type : (l t : ℕ) → 4 * l + 1 ≡ t → 4 * l < t
-to_loop_type l t e = omega arith
-
-pub to_type_new : (l t : ℕ) → 4 * l ≡ t → (l ≡ 0 → ⊥) → 4 * (l - 1) + 3 < t
-to_type_new l t e z = omega arith
 
 -- ---- emit_new
 module _ (b : TypeTable) (s : List ℕ) (lent : Lent) (why : ℕ → Entry) (n : ℕ) (p : Pen) (tx w li : List ℕ) (id cont left : ℕ) (t : Record) (et : t ≡ record_by_id b s w id) (nd : Code) (en : node_is b s nd ≡ node_of (type_of b s t)) (x : Out (Noted Sheet)) where

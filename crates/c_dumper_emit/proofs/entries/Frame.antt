@@ -7,9 +7,9 @@ use mathlib.Core.Logic.{⊎_elim, ◌≢◌}
 use native.Mathlib.Omega.{arith}
 use lib.Dec.{eqb, ltb}
 use lib.ListN.{length}
+use Rattle.std.proofs.lemmas.Bool.{cases_lt}
 use Rattle.std.specs.Prelude.{Ok}
 use Rattle.spec_bytes.specs.text.Placed.{Out as TextOut, done as lies, stopped, put_text}
-use Rattle.spec_bytes.proofs.words.Laws.{le_or_lt}
 use Rattle.spec_c_dumper.specs.rules.Order.{Node, ignored, plain, listed, through, ptr, tdef, proto, comp, Mark, new, busy, done}
 use Rattle.spec_c_dumper.specs.rules.Machine.{Out, wrote, stuck, Machine, is_zero, pick, obind, eeach, once, mention, again, close, leaf, within, begin, allowed, look}
 use Rattle.spec_c_dumper.specs.rules.Types.{Name, Btf as Rules, table_of}
@@ -205,9 +205,9 @@ module _ (b : TypeTable) (s : List ℕ) (B : Rules) (lent : Lent) (why : ℕ →
 place_apart : (types c j : ℕ) → j * 16 + 11 ≢ count_p types c
 place_apart types c j e =
     ⊎_elim
-    (λ l. let q : j * 16 + 11 ≡ types * 16 + (c - types) * 8 + 2 = e ∙ sym (place_enum types 6 2 c l) in omega arith)
     (λ l. let q : j * 16 + 11 ≡ c * 16 + 6 = e ∙ sym (place_type types 6 2 c l) in omega arith)
-    (le_or_lt types c)
+    (λ l. let q : j * 16 + 11 ≡ types * 16 + (c - types) * 8 + 2 = e ∙ sym (place_enum types 6 2 c l) in omega arith)
+    (cases_lt c types)
 
 places_counted : (types : ℕ) (w : List ℕ) (h : ℕ) → places (count_raised (class_p types) (count_p types) w h) ≡ places w
 places_counted types w h = λ i k. counted_other types w h (k * 16 + 11) (λ c. place_apart types c k) i

@@ -2,7 +2,7 @@
 use Prim.Native.Nat.{ℕ, zero, suc, ◌+◌, ◌*◌, ◌/◌, ◌<◌, ◌≤◌}
 use mathlib.Core.Path.{◌≡◌, refl, ap, ◌∙◌, sym, subst}
 use mathlib.Core.List.{List, [], ◌∷◌, ◌++◌}
-use mathlib.Core.Bool.{Bool, true, false, not, ◌&&◌, true≢false}
+use mathlib.Core.Bool.{Bool, true, false, not, ◌&&◌, true≢false, and-true}
 use native.Mathlib.Omega.{arith}
 use native.Mathlib.Numerals.{add-one}
 use lib.Dec.{ltb}
@@ -299,12 +299,8 @@ lent_length lists i = record { lists = lists; room = i / 12 }
 pub same_lent : (lists : Bool) (i j : ℕ) → i ≡ j → lent_length lists i ≡ lent_length lists j
 same_lent lists i j e = ap (lent_length lists) e
 
-pub and_on : (f g r : Bool) → f ≡ true → r ≡ g → r ≡ (f && g)
-and_on f g r e q = q ∙ ap (λ (x : Bool). x && g) (sym e)
-
 pub and_true : (f : Bool) → f ≡ (f && true)
-and_true true = refl
-and_true false = refl
+and_true f = sym (and-true f)
 
 -- ---- what is kept where a call ended with a pen
 pub kept_by : {X : Type 0} → (P : List ℕ → X) (n : ℕ) (a : Pen) (t₁ w₁ l₁ w : List ℕ) → Stays P w (noted_out n (Ok a) t₁ w₁ l₁) → P w₁ ≡ P w

@@ -53,7 +53,8 @@ module _ (b : TypeTable) (w : List ℕ) (B : Rules) (t : List ℕ) (at : Placed)
       (put_then _ _ _ _ _ p t₁ w' _ _ _ (put_only _ _ _ w' _ _ e₁) (put_then _ _ _ _ _ q t₂ w' _ _ _ (put_only _ _ _ w' _ _ e₂) (put_only _ _ _ w' _ _ e₃)))
       ∙ ap (put_said t at) (sym (fwd_is h))
 
-pub fwd_def : (b : TypeTable) (w : List ℕ) (B : Rules) (t : List ℕ) (at : Placed) (id : ℕ) (is_union : Bool) (name : Name) (r : Placed) (t' w' : List ℕ)
-    → out_of r t' w' ≡ put_said t at (emit_composite_fwd (work_naming b) B id (not is_union) name w) → out_of r t' w' ≡ put_said t at (emit_fwd_def (work_naming b) B id is_union name w)
+-- a forward, by what was read of its flag
+pub fwd_def : (b : TypeTable) (w : List ℕ) (B : Rules) (t : List ℕ) (at : Placed) (id : ℕ) (x is_union : Bool) (name : Name) (r : Placed) (t' w' : List ℕ) → x ≡ is_union
+    → out_of r t' w' ≡ put_said t at (emit_composite_fwd (work_naming b) B id (not x) name w) → out_of r t' w' ≡ put_said t at (emit_fwd_def (work_naming b) B id is_union name w)
 unfolding emit_fwd_def
-fwd_def b w B t at id is_union name r t' w' e = e
+fwd_def b w B t at id x is_union name r t' w' e o = o ∙ ap (λ (y : Bool). put_said t at (emit_composite_fwd (work_naming b) B id (not y) name w)) e

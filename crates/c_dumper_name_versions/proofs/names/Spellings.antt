@@ -5,9 +5,9 @@ use mathlib.Core.List.{List, [], ◌∷◌, ◌++◌}
 use mathlib.Core.Bool.{Bool, true, false}
 use mathlib.Core.Logic.{⊎_elim}
 use borrow.Author.Tests.{lt-ltb, le-ltb}
+use Rattle.std.proofs.lemmas.Bool.{cases_lt}
 use Rattle.std.specs.Prelude.{Option, Some, None, Err, IsErrAnd}
 use Rattle.spec_bytes.specs.declared.refusal.Refusal.{Refusal}
-use Rattle.spec_bytes.proofs.words.Laws.{le_or_lt}
 use Rattle.spec_bytes.specs.text.Text.{ascii, whole}
 use Rattle.spec_bytes.specs.text.Placed.{Placed, put_out, put_text}
 use Rattle.spec_bytes.specs.text.Decimal.{decimal}
@@ -39,9 +39,9 @@ never_empty (x ∷ a) c d b = refl
 pub spelled_some : (name : List ℕ) (v : ℕ) → is_empty name ≡ false → is_empty (spelled name v) ≡ false
 spelled_some name v h =
     ⊎_elim
-    (λ l. ap is_empty (spelled_more name v l) ∙ sym (never_empty name (95 ∷ 95 ∷ []) (decimal v) 95))
     (λ l. ap is_empty (spelled_bare name v l) ∙ h)
-    (le_or_lt 2 v)
+    (λ l. ap is_empty (spelled_more name v l) ∙ sym (never_empty name (95 ∷ 95 ∷ []) (decimal v) 95))
+    (cases_lt v 2)
 
 -- ---- the number of a holder
 module _ (v : ℕ) where
@@ -58,9 +58,9 @@ module _ (v : ℕ) where
   unfolding numbered
   numbered_as name =
       ⊎_elim
-      (λ h. ap (numbered name) (number_some h) ∙ sym (spelled_more name v h))
       (λ h. ap (numbered name) (number_none h) ∙ sym (spelled_bare name v h))
-      (le_or_lt 2 v)
+      (λ h. ap (numbered name) (number_some h) ∙ sym (spelled_more name v h))
+      (cases_lt v 2)
 
   -- held
   pub held_first : (off : ℕ) (r : Name) → v < 2 → r ≡ record { off = off; number = None } → r ≡ record { off = off; number = number_of v }

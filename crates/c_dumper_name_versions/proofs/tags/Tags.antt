@@ -122,13 +122,10 @@ module _ (b : TypeTable) (s w : List ℕ) (id comp : ℕ) (x : Record) (ex : x �
   pub tag_no_comp : (k i : ℕ) → k ≡ kind_of x.info → k ≡ 17 → i ≡ extra_word b s x → (i ≡ comp → ⊥) → put_out at text ≡ put_text text at (whole (decl_tag comp ((btf_of b s w).type_by_id id)))
   tag_no_comp k i ek e ei n = put_same text at [] _ at text (tag_of [] (other_tag b s comp x (sym ek ∙ e) (λ q. n (ei ∙ q)))) (put_empty text at)
 
-  pub tag_shown : (k i : ℕ) (f : Bool) (r : Placed) (u : List ℕ) → k ≡ kind_of x.info → k ≡ 17 → i ≡ extra_word b s x → i ≡ comp → f ≡ flag_of x.info
-      → put_out r u ≡ put_text text at (whole (attribute f (ascii "btf_decl_tag") (str_at b s x.name_off)))
+  pub tag_shown : (k i : ℕ) (r : Placed) (u : List ℕ) → k ≡ kind_of x.info → k ≡ 17 → i ≡ extra_word b s x → i ≡ comp
+      → put_out r u ≡ put_text text at (whole (attribute (flag_of x.info) (ascii "btf_decl_tag") (str_at b s x.name_off)))
       → put_out r u ≡ put_text text at (whole (decl_tag comp ((btf_of b s w).type_by_id id)))
-  tag_shown k i f r u ek e ei q ef o =
-      put_same text at _ _ r u
-      (ap (λ (y : Bool). attribute y (ascii "btf_decl_tag") (str_at b s x.name_off)) ef ∙ tag_of _ (this_tag b s comp x (sym ek ∙ e) (sym ei ∙ q)))
-      o
+  tag_shown k i r u ek e ei q o = put_same text at _ _ r u (tag_of _ (this_tag b s comp x (sym ek ∙ e) (sym ei ∙ q))) o
 
 -- ---- the tags of a type
 module _ (types : ℕ) (w : List ℕ) (last x : ℕ) where

@@ -17,6 +17,7 @@ use base_keywords::table::{Word, put_word};
 use btf_open_names::numbers::get_number;
 use btf_type_table::cell;
 use btf_type_table::cell::{get_field, put_field};
+use btf_type_table::node::TypeRef;
 use btf_type_table::table::Table;
 use spec_type_table::TypeTable;
 
@@ -30,42 +31,45 @@ pub struct Name {
     pub number: Option<u32>,
 }
 
-// A name by itself, as a member's or a parameter's.
-pub fn bare(off: u32) -> Name
-    ensures { result ≡ record { off = off; number = None } }
-{
-    Name { off, number: None }
+impl Name {
+    // A name by itself, as a member's or a parameter's.
+    pub fn bare(off: u32) -> Name
+        ensures { result ≡ record { off = off; number = None } }
+    {
+        Name { off, number: None }
+    }
+
+    // The name of its n-th holder.
+    fn held(off: u32, n: u32) -> Name
+        ensures { result ≡ record { off = off; number = number_of n } }
+    {
+        if n < SECOND {
+            return Name::bare(off);
+        }
+        Name {
+            off,
+            number: Some(n),
+        }
+    }
 }
 
-// The name of its n-th holder.
-fn held(off: u32, n: u32) -> Name
-    ensures { result ≡ record { off = off; number = number_of n } }
-{
-    if n < SECOND {
-        return bare(off);
-    }
-    Name {
-        off,
-        number: Some(n),
-    }
-}
-
-// The name of type id, which it keeps; it counts as a holder when it is first asked for.
-pub fn resolve_type_name(b: &Table, work: &mut [u8], id: u32, off: u32) -> Name
-    ensures { (result.off ≡ off)
+// The name of a type, which it keeps; it counts as a holder when it is first asked for.
+pub fn resolve_type_name(b: &Table, work: &mut [u8], x: TypeRef) -> Name
+    ensures { (result.off ≡ x.t.name_off)
         × (put (name_text b.now.head b.now.section.now result) work.new
-        ≡ resolve_type_name (work_naming b.now.head) tag_space id (str_at b.now.head b.now.section.now off) put work.old) }
+        ≡ resolve_type_name (work_naming b.now.head) tag_space x.id (str_at b.now.head b.now.section.now x.t.name_off) put work.old) }
 {
+    let off = x.t.name_off;
     if b.is_empty(off) {
-        return bare(off);
+        return Name::bare(off);
     }
-    let version = get_field(work, id, cell::NAME_VERSION);
+    let version = get_field(work, x.id, cell::NAME_VERSION);
     if version != 0 {
-        return held(off, version);
+        return Name::held(off, version);
     }
-    let n = get_number(work, b.head.types, id);
-    put_field(work, id, cell::NAME_VERSION, n);
-    held(off, n)
+    let n = get_number(work, b.head.types, x.id);
+    put_field(work, x.id, cell::NAME_VERSION, n);
+    Name::held(off, n)
 }
 
 // The name of enumerator e, counted over all enums: each time it is printed it is one more holder.
@@ -74,10 +78,10 @@ pub fn resolve_name(b: TypeTable, work: &mut [u8], e: u32, off: u32) -> Name
         × (work.new ≡ (value_version_in b.types e work.old).names) }
 {
     let Some(h) = b.types.checked_add(e) else {
-        return bare(off);
+        return Name::bare(off);
     };
     let n = get_number(work, b.types, h);
-    held(off, n)
+    Name::held(off, n)
 }
 
 pub fn put_name(b: &Table, text: &mut [u8], at: usize, name: Name) -> Result<usize, Refusal>

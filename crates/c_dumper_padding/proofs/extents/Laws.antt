@@ -1,8 +1,8 @@
 -- What each return of the code comes to. Assumes nothing.
-use Prim.Native.Nat.{ℕ, suc, ◌+◌, ◌-◌, ◌*◌, ◌/◌, ◌%◌, ◌<◌, ◌≤◌}
+use Prim.Native.Nat.{ℕ, zero, suc, ◌+◌, ◌-◌, ◌*◌, ◌/◌, ◌%◌, ◌<◌, ◌≤◌}
 use mathlib.Core.Path.{◌≡◌, refl, ap, ap₂, ◌∙◌, sym}
 use mathlib.Core.Bool.{Bool, true, false, ◌&&◌}
-use mathlib.Core.List.{List}
+use mathlib.Core.List.{List, [], ◌∷◌, map}
 use native.Mathlib.Omega.{arith}
 use native.Mathlib.Nat.{div-zero, mul-zero}
 use lib.Dec.{eqb, leb}
@@ -12,13 +12,15 @@ use Rattle.std.specs.Int.{div_ceil}
 use Rattle.std.specs.Option.{ok_or, option_eq}
 use Rattle.std.proofs.lemmas.Nat.{div-mul-add}
 use Rattle.std.proofs.lemmas.Grind.{div_ceil_times}
+use Rattle.std.specs.List.{range_with_len}
+use Rattle.base_bytes.proofs.TryFolds.{ResultTurn}
 use Rattle.btf_layout.proofs.remembered.Laws.{max_larger}
 use Rattle.spec_bytes.specs.declared.refusal.Refusal.{Refusal}
 use Rattle.spec_bytes.specs.declared.refusal.Refusal.TheVariants.{Overflow, Misplaced}
 use Rattle.spec_c_dumper.specs.rules.Writer.{Ask, got, no, ask_then, checked, misplaced}
 use Rattle.spec_c_dumper.specs.rules.Types.{Member, Btf as Rules}
 use Rattle.spec_c_dumper.specs.rules.Layout.{get_size_of, end_of}
-use Rattle.spec_c_dumper.specs.rules.Placing.{round_up, same_unit, field_size, field_fits, start_fits, member_fits, Extent, reached, with_member, extent_of, no_extent, size_fits}
+use Rattle.spec_c_dumper.specs.rules.Placing.{round_up, same_unit, field_size, field_fits, start_fits, member_fits, Extent, reached, with_member, extent_of, size_fits}
 use Rattle.spec_type_table.specs.declared.types.TypeTable.{TypeTable}
 use Rattle.spec_type_table.specs.declared.types.BtfType.{BtfType as Record}
 use Rattle.spec_type_table.specs.declared.types.BtfMember.{BtfMember}
@@ -173,14 +175,14 @@ module _ (B : Rules) (s p : Bool) (x : Code) (m : Member) where
     unfolding extents_of ask_of ask_then
     next_got q end eq f y ey = ap got ey ∙ ap (λ (z : Ask ℕ). ask_then z (λ end. got (with_extent s p x size end m.bit_offset m.bit_size))) (sym (ap ask_of f) ∙ eq) ∙ sym sized
 
--- ---- extent_of: what the members from k on make of x
-module _ (B : Rules) (b : TypeTable) (s : List ℕ) (t : Record) (is p : Bool) where
-  pub extent_rest : Extent → ℕ → Ask Extent
-  extent_rest x k = extent_of B is p x (from (λ i. rule_member b s (member_of b s t i)) k (vlen_of t.info - k))
+-- ---- extent_of: what members make of x
+module _ (B : Rules) (b : TypeTable) (s : List ℕ) (is p : Bool) where
+  abbrev pub Measures : Code → List BtfMember → Extents → Type 0
+  Measures x ms r = extents_of r ≡ extent_of B is p (extent_is x) (map (rule_member b s) ms)
 
-  pub extent_start : extent_of B is p no_extent (members_of b s t) ≡ extent_rest (extent_is (record { last = 0; fits = true })) 0
-  unfolding extent_rest extent_is
-  extent_start = let z : vlen_of t.info ≡ vlen_of t.info - 0 = omega arith in ap (λ (n : ℕ). extent_of B is p no_extent (from (λ i. rule_member b s (member_of b s t i)) 0 n)) z
+  pub extent_end : (x : Code) → Measures x [] (Ok x)
+  unfolding extents_of extent_of
+  extent_end x = refl
 
   then_then : {A C D E : Type 0} (x : Ask A) (y : A → Ask C) (f : A → C → D) (g : D → Ask E) → ask_then x (λ a. ask_then (y a) (λ c. g (f a c))) ≡ ask_then (ask_then x (λ a. ask_then (y a) (λ c. got (f a c)))) g
   unfolding ask_then
@@ -191,30 +193,25 @@ module _ (B : Rules) (b : TypeTable) (s : List ℕ) (t : Record) (is p : Bool) w
       go (got c) = refl
       go (no c) = refl
 
-  module _ (x : Code) (k n : ℕ) (m : BtfMember) (r : Extents) (en : n ≡ vlen_of t.info) (l : k < n) (em : m ≡ member_of b s t k) (er : extents_of r ≡ one_member B is p x (rule_member b s m)) where
-    extent_step : extent_rest (extent_is x) k ≡ ask_then (extents_of r) (λ y. extent_rest y (k + 1))
-    unfolding extent_rest from extent_of one_member with_extent
-    extent_step =
-        let z : vlen_of t.info - k ≡ suc (vlen_of t.info - (k + 1)) = omega arith in
-        ap (λ (n : ℕ). extent_of B is p (extent_is x) (from (λ i. rule_member b s (member_of b s t i)) k n)) z
-        ∙ then_then (field_size B (rule_member b s (member_of b s t k))) (λ size. end_of B (rule_member b s (member_of b s t k)))
-        (λ size end. with_member is p (extent_is x) size end (rule_member b s (member_of b s t k)).bit_offset (rule_member b s (member_of b s t k)).bit_size) (λ y. extent_rest y (k + 1))
-        ∙ ap (λ (y : BtfMember). ask_then (one_member B is p x (rule_member b s y)) (λ y. extent_rest y (k + 1))) (sym em)
-        ∙ ap (λ (y : Ask Extent). ask_then y (λ y. extent_rest y (k + 1))) (sym er)
+  module _ (x : Code) (m : BtfMember) (w : Extents) (ew : extents_of w ≡ one_member B is p x (rule_member b s m)) where
+    extent_step : (ms : List BtfMember) → extent_of B is p (extent_is x) (map (rule_member b s) (m ∷ ms)) ≡ ask_then (extents_of w) (λ y. extent_of B is p y (map (rule_member b s) ms))
+    unfolding extent_of one_member with_extent
+    extent_step ms =
+        then_then (field_size B (rule_member b s m)) (λ size. end_of B (rule_member b s m)) (λ size end. with_member is p (extent_is x) size end (rule_member b s m).bit_offset (rule_member b s m).bit_size)
+        (λ y. extent_of B is p y (map (rule_member b s) ms)) ∙ ap (λ (y : Ask Extent). ask_then y (λ y. extent_of B is p y (map (rule_member b s) ms))) (sym ew)
 
-    pub extent_more : (T : Ask Extent) (y : Code) → T ≡ extent_rest (extent_is x) k → r ≡ Ok y → T ≡ extent_rest (extent_is y) (k + 1)
-    unfolding ask_then extents_of
-    extent_more T y i g = i ∙ extent_step ∙ ap (λ (z : Extents). ask_then (extents_of z) (λ y. extent_rest y (k + 1))) g
+  pub extent_more : (x : Code) (m : BtfMember) (w : Extents) → extents_of w ≡ one_member B is p x (rule_member b s m) → ResultTurn (λ (m : BtfMember). m) Measures x m w
+  unfolding ask_then extents_of
+  extent_more x m (Ok y) e = λ ms r i. i ∙ sym (extent_step x m (Ok y) e ms)
+  extent_more x m (Err c) e = λ ms. sym (extent_step x m (Err c) e ms)
 
-    pub extent_refused : (T : Ask Extent) (c : Refusal) → T ≡ extent_rest (extent_is x) k → r ≡ Err c → extents_of (Err c) ≡ T
-    unfolding ask_then extents_of
-    extent_refused T c i g = sym (i ∙ extent_step ∙ ap (λ (z : Extents). ask_then (extents_of z) (λ y. extent_rest y (k + 1))) g)
-
-  pub extent_end : (T : Ask Extent) (x : Code) (k n : ℕ) → T ≡ extent_rest (extent_is x) k → n ≡ vlen_of t.info → n ≤ k → extents_of (Ok x) ≡ T
-  unfolding extent_rest from extent_of extents_of
-  extent_end T x k n i en l =
-      let z : vlen_of t.info - k ≡ 0 = omega arith in
-      sym (i ∙ ap (λ (n : ℕ). extent_of B is p (extent_is x) (from (λ i. rule_member b s (member_of b s t i)) k n)) z)
+  pub read_members : (t : Record) → map (rule_member b s) (map (member_of b s t) (range_with_len 0 (vlen_of t.info))) ≡ members_of b s t
+  unfolding from
+  read_members t = go 0 (vlen_of t.info)
+    where
+      go : (k n : ℕ) → map (rule_member b s) (map (member_of b s t) (range_with_len k n)) ≡ from (λ i. rule_member b s (member_of b s t i)) k n
+      go k zero = refl
+      go k (suc n) = ap (λ ms. rule_member b s (member_of b s t k) ∷ ms) (go (k + 1) n)
 
 -- ---- size_fits
 module _ (is : Bool) (a last bits : ℕ) where

@@ -14,6 +14,7 @@ use Rattle.spec_c_dumper.specs.rules.Layout.{Pad, pad_of, pads_of, placed_pad, p
 use Rattle.spec_c_dumper.specs.rules.Placing.{tail_pads}
 use Rattle.spec_c_dumper.specs.rules.Decl.{pads, own_line, tail_text}
 use Rattle.spec_c_dumper.proofs.rules.Placed.{pad_stays}
+use Rattle.spec_c_dumper.proofs.alignment_once.Right.{same_or}
 use Rattle.c_dumper_padding.specs.declared.units.Pad.{Pad as Code}
 use Rattle.c_dumper_padding.specs.units.Units.{pad_is, pad_by, pads_by}
 use Rattle.c_dumper_padding.specs.pads.Texts.{pad_line, lone_line}
@@ -34,15 +35,11 @@ module _ (p : ℕ) where
   within : (start gap : ℕ) → 1 ≤ gap → (1 ≤ (placed_pad p start gap).width) × ((placed_pad p start gap).width ≤ gap)
   within start gap l = let q = pad_stays (λ x. 0) (λ x. 0) true p start gap l in (q.some, q.within)
 
-  zero_or : {P : Type 0} → (n : ℕ) → (n ≡ 0 → P) → ((n ≡ 0 → ⊥) → P) → P
-  zero_or zero a b = a refl
-  zero_or (suc n) a b = b (λ e. omega arith)
-
   enough : (n m start gap : ℕ) → gap ≤ n → gap ≤ m → placed_pads n p start gap ≡ placed_pads m p start gap
   enough zero m start gap ln lm = let z : gap ≡ 0 = omega arith in none_left zero start gap z ∙ sym (none_left m start gap z)
   enough (suc n) zero start gap ln lm = let z : gap ≡ 0 = omega arith in none_left (suc n) start gap z ∙ sym (none_left zero start gap z)
   enough (suc n) (suc m) start gap ln lm =
-      zero_or gap
+      same_or gap 0
       (λ z. none_left (suc n) start gap z ∙ sym (none_left (suc m) start gap z))
       (λ z.
       let l : 1 ≤ gap = omega arith in

@@ -6,7 +6,7 @@ use native.Mathlib.Omega.{arith}
 use native.Mathlib.Nat.{mod-zero}
 use mathlib.Core.Bool.{Bool, true, false}
 use borrow.Author.Tests.{ne_eqb}
-use Rattle.spec_bytes.proofs.words.Laws.{le_or_lt}
+use Rattle.std.proofs.lemmas.Bool.{cases_lt}
 use Rattle.spec_c_dumper.specs.rules.Layout.{long, int, short, char, chip_away_bits, pad_of, placed_pad}
 use Rattle.c_dumper_padding.specs.declared.units.Pad.{Pad as Code}
 use Rattle.c_dumper_padding.specs.declared.units.Unit.TheVariants.{Long, Int, Short, Char}
@@ -17,7 +17,7 @@ use Rattle.c_dumper_padding.proofs.units.Widths.{pad_long, no_long, pad_int, pad
 module _ (total at_most : ℕ) where
   pub chip_none : at_most ≡ 0 → total ≡ chip_away_bits total at_most
   unfolding chip_away_bits
-  chip_none e = ⊎_elim here there (le_or_lt 1 total)
+  chip_none e = ⊎_elim there here (cases_lt total 1)
     where
       z : total % at_most ≡ total
       z = ap (λ (n : ℕ). total % n) e ∙ mod-zero total

@@ -11,17 +11,13 @@ use denote.Ref.{Bor}
 use Rattle.std.specs.Prelude.{Option, Some, None, drop, cond}
 use Rattle.std.specs.List.{find}
 use Rattle.std.specs.Option.{option_map}
+use Rattle.std.specs.Cmp.{both_ways}
 use Rattle.spec_c_dumper.specs.rules.Layout.{long, char, Pad, suits, placed_pad}
 use Rattle.c_dumper_padding.specs.declared.units.Unit.{Unit}
 use Rattle.c_dumper_padding.specs.declared.units.Unit.TheVariants.{Long, Int, Short, Char}
 use Rattle.c_dumper_padding.specs.units.Units.{unit_of, pad_is, suits_by}
 
 -- ---- zeros at the end of a number
-both : (a b : Bool) → (a ≡ true → b ≡ true) → (b ≡ true → a ≡ true) → a ≡ b
-both true b f g = sym (f refl)
-both false true f g = g refl
-both false false f g = refl
-
 module _ (d k w v n : ℕ) (rec : (j : ℕ) → leb k (count_trailing_zeros d j) ≡ eqb (j % w) 0) (up : n % 2 ≡ 0 → n / 2 % w ≡ 0 → n % v ≡ 0) (down : n % v ≡ 0 → (n % 2 ≡ 0) × (n / 2 % w ≡ 0)) where
   one_more_zero : leb (suc k) (count_trailing_zeros (suc d) n) ≡ eqb (n % v) 0
   unfolding count_trailing_zeros
@@ -32,7 +28,7 @@ module _ (d k w v n : ℕ) (rec : (j : ℕ) → leb k (count_trailing_zeros d j)
           ap (λ (x : ℕ). leb (suc k) (under x (count_trailing_zeros d (n / 2)))) e
           ∙ leb-suc-suc k (count_trailing_zeros d (n / 2))
           ∙ rec (n / 2)
-          ∙ both (eqb (n / 2 % w) 0) (eqb (n % v) 0) (λ t. eq-eqb (n % v) 0 (up e (eqb-true (n / 2 % w) 0 t))) (λ t. eq-eqb (n / 2 % w) 0 (down (eqb-true (n % v) 0 t)).1)
+          ∙ both_ways (eqb (n / 2 % w) 0) (eqb (n % v) 0) (λ t. eq-eqb (n % v) 0 (up e (eqb-true (n / 2 % w) 0 t))) (λ t. eq-eqb (n / 2 % w) 0 (down (eqb-true (n % v) 0 t)).1)
       go (suc r) e =
           ap (λ (x : ℕ). leb (suc k) (under x (count_trailing_zeros d (n / 2)))) e
           ∙ leb-suc-zero k

@@ -1,29 +1,27 @@
 -- The pads of a gap: which unit, how wide, and that as many as there are bits are enough. Assumes nothing.
-use Prim.Native.Nat.{ℕ, zero, suc, ◌-◌, ◌*◌, ◌%◌, ◌<◌, ◌≤◌}
-use mathlib.Core.Path.{◌≡◌, refl, ap, ◌∙◌, sym}
+use Prim.Native.Nat.{ℕ, suc, ◌-◌, ◌*◌, ◌%◌, ◌<◌, ◌≤◌}
+use mathlib.Core.Path.{◌≡◌, ap, ◌∙◌}
 use mathlib.Core.List.{List, [], ◌∷◌}
 use mathlib.Core.Logic.{◌⊎◌, inl, inr, ⊎_elim}
 use lib.Dec.{ltb}
 use native.Mathlib.Omega.{arith}
 use native.Mathlib.Nat.{mod-le, mod-eq_of_lt}
 use borrow.Author.Tests.{lt-ltb, le-ltb, ne_eqb}
+use Rattle.std.proofs.lemmas.Bool.{cases_lt}
 use Rattle.std.proofs.Math.Bool.{and-false}
-use Rattle.spec_bytes.proofs.words.Laws.{le_or_lt}
 use Rattle.spec_c_dumper.specs.rules.Layout.{long, int, short, char, Pad, chip_away_bits, pad_of, pads_of}
-
-zero_or : {P : Type 0} → (n : ℕ) → (n ≡ 0 → P) → ((n ≡ 0 → ⊥) → P) → P
-zero_or zero p q = p refl
-zero_or (suc n) p q = q (λ e. omega arith)
+use Rattle.spec_c_dumper.proofs.alignment_once.Right.{same_or}
+use Rattle.spec_c_dumper.proofs.rules.Pads.{no_pads, pads_enough}
 
 -- ---- widths
 chip_width : (total n : ℕ) → 1 ≤ n → 1 ≤ total → (1 ≤ chip_away_bits total n) × (chip_away_bits total n ≤ total)
 unfolding chip_away_bits
-chip_width total n ln lt = zero_or (total % n) whole part
+chip_width total n ln lt = same_or (total % n) 0 whole part
   where
     whole : total % n ≡ 0 → (1 ≤ chip_away_bits total n) × (chip_away_bits total n ≤ total)
     whole z =
         let e : chip_away_bits total n ≡ n = rw (z, chip_away_bits) in
-        let h : n ≤ total = ⊎_elim (λ l. l) (λ l. let q : total % n ≡ total = mod-eq_of_lt l in absurd (omega arith)) (le_or_lt n total) in
+        let h : n ≤ total = ⊎_elim (λ l. let q : total % n ≡ total = mod-eq_of_lt l in absurd (omega arith)) (λ l. l) (cases_lt total n) in
         rw e (ln, h)
 
     part : (total % n ≡ 0 → ⊥) → (1 ≤ chip_away_bits total n) × (chip_away_bits total n ≤ total)
@@ -61,7 +59,7 @@ abbrev Within : Pad → ℕ → Type 0
 Within x gap = (1 ≤ x.width) × (x.width ≤ gap)
 
 pub pad_within : (p gap : ℕ) → 1 ≤ gap → Within (pad_of p gap) gap
-pad_within p gap l = ⊎_elim (λ f. rw (no_long p gap (inl f)) narrow) (λ f. ⊎_elim (λ h. rw (no_long p gap (inr h)) narrow) (wide f) (le_or_lt gap 32)) (le_or_lt p 4)
+pad_within p gap l = ⊎_elim (λ f. ⊎_elim (wide f) (λ h. rw (no_long p gap (inr h)) narrow) (cases_lt 32 gap)) (λ f. rw (no_long p gap (inl f)) narrow) (cases_lt 4 p)
   where
     wide : 4 < p → 32 < gap → Within (pad_of p gap) gap
     wide f h = let m : 1 ≤ p * 8 = omega arith in rw (pad_long p gap f h) (chip_width gap (p * 8) m l)
@@ -69,36 +67,18 @@ pad_within p gap l = ⊎_elim (λ f. rw (no_long p gap (inl f)) narrow) (λ f. �
     narrow : Within (pad_of 0 gap) gap
     narrow =
         ⊎_elim
-        (λ h. ⊎_elim
-        (λ g. let m : 1 ≤ 8 = omega arith in rw (pad_char gap h g) (chip_width gap 8 m l))
-        (λ g. let m : 1 ≤ 16 = omega arith in rw (pad_short gap h g) (chip_width gap 16 m l))
-        (le_or_lt gap 8))
         (λ h. let m : 1 ≤ 32 = omega arith in rw (pad_int gap h) (chip_width gap 32 m l))
-        (le_or_lt gap 16)
+        (λ h. ⊎_elim
+        (λ g. let m : 1 ≤ 16 = omega arith in rw (pad_short gap h g) (chip_width gap 16 m l))
+        (λ g. let m : 1 ≤ 8 = omega arith in rw (pad_char gap h g) (chip_width gap 8 m l))
+        (cases_lt 8 gap))
+        (cases_lt 16 gap)
 
 -- ---- all of them
 module _ (p : ℕ) where
-  none_left : (n gap : ℕ) → gap ≡ 0 → pads_of n p gap ≡ []
-  unfolding pads_of
-  none_left zero gap z = refl
-  none_left (suc n) gap z = rw (z, pads_of)
-
   one_more : (n gap : ℕ) → (gap ≡ 0 → ⊥) → pads_of (suc n) p gap ≡ pad_of p gap ∷ pads_of n p (gap - (pad_of p gap).width)
   unfolding pads_of
   one_more n gap z = rw (ne_eqb gap 0 z, pads_of)
-
-  enough : (n m gap : ℕ) → gap ≤ n → gap ≤ m → pads_of n p gap ≡ pads_of m p gap
-  enough zero m gap ln lm = let z : gap ≡ 0 = omega arith in none_left zero gap z ∙ sym (none_left m gap z)
-  enough (suc n) zero gap ln lm = let z : gap ≡ 0 = omega arith in none_left (suc n) gap z ∙ sym (none_left zero gap z)
-  enough (suc n) (suc m) gap ln lm =
-      zero_or gap
-      (λ z. none_left (suc n) gap z ∙ sym (none_left (suc m) gap z))
-      (λ z.
-      let l : 1 ≤ gap = omega arith in
-      let w = pad_within p gap l in
-      one_more n gap z
-      ∙ ap (λ (ps : List Pad). pad_of p gap ∷ ps) (enough n m (gap - (pad_of p gap).width) (omega (arith, w.0)) (omega (arith, w.0)))
-      ∙ sym (one_more m gap z))
 
   -- the next one, and those of what is left
   pub pads_next : (gap : ℕ) → 1 ≤ gap → pads_of gap p gap ≡ pad_of p gap ∷ pads_of (gap - (pad_of p gap).width) p (gap - (pad_of p gap).width)
@@ -108,7 +88,7 @@ module _ (p : ℕ) where
       let w = pad_within p gap l in
       ap (λ (n : ℕ). pads_of n p gap) e
       ∙ one_more (gap - 1) gap z
-      ∙ ap (λ (ps : List Pad). pad_of p gap ∷ ps) (enough (gap - 1) (gap - (pad_of p gap).width) (gap - (pad_of p gap).width) (omega (arith, w.0)) (omega arith))
+      ∙ ap (λ (ps : List Pad). pad_of p gap ∷ ps) (pads_enough p (gap - 1) (gap - (pad_of p gap).width) (gap - (pad_of p gap).width) (omega (arith, w.0)) (omega arith))
 
   pub pads_none : (gap : ℕ) → gap ≡ 0 → pads_of gap p gap ≡ []
-  pads_none gap z = none_left gap gap z
+  pads_none gap z = no_pads p gap gap z

@@ -7,8 +7,8 @@ use mathlib.Core.Logic.{◌↔◌, ⊎_elim}
 use native.Mathlib.Omega.{arith}
 use lib.Dec.{eqb}
 use lib.ListN.{length, take}
+use Rattle.std.proofs.lemmas.Bool.{cases_lt}
 use Rattle.spec_bytes.specs.words.Words.{pick}
-use Rattle.spec_bytes.proofs.words.Laws.{le_or_lt}
 use Rattle.spec_c_dumper.specs.rules.Names.{Names}
 use Rattle.spec_c_dumper.specs.rules.Machine.{Answer, Req, one, all}
 use Rattle.spec_opening.specs.Causes.{opening_number}
@@ -40,7 +40,7 @@ from_length b k zero = refl
 from_length b k (suc n) = ap suc (from_length b (suc k) n)
 
 count_most : (b : List ℕ) → count_in b ≤ 4294967295
-count_most b = ⊎_elim (λ l. omega (arith, count_few b l)) (λ l. omega (arith, count_many b l)) (le_or_lt (length b / 4) 4294967295)
+count_most b = ⊎_elim (λ l. omega (arith, count_many b l)) (λ l. omega (arith, count_few b l)) (cases_lt 4294967295 (length b / 4))
 
 ids_few : (b : List ℕ) → 0 + length (ids_in b) < 4294967296
 ids_few b = omega (arith, ap length (ids_all b), from_length b 0 (count_in b), count_most b)

@@ -8,7 +8,7 @@ use native.Mathlib.Omega.{arith}
 use lib.ListN.{length, replicate}
 use lib.Dec.{ltb}
 use borrow.Author.Tests.{le-ltb, eq-eqb, ne_eqb, ltb-false}
-use Rattle.spec_bytes.proofs.words.Laws.{le_or_lt}
+use Rattle.std.proofs.lemmas.Bool.{cases_lt}
 use Rattle.spec_opening.specs.Table.{types_of, enumerators_of}
 use Rattle.spec_opening.specs.Causes.{opening_number}
 use Rattle.spec_opening.specs.Opened.{refused, opened, work_of}
@@ -40,7 +40,7 @@ module _ (p modes : ℕ) (s : List ℕ) (n : ℕ) (ok : opening_number p s n ≡
   few_enumerators = omega (arith, enumerators_few (header_of p modes s) s (order_ok p modes s n ok) (header_ok p modes s n ok) (types_ok p modes s n ok), section_short p modes s n ok)
 
   small_pointer : p < 4294967296
-  small_pointer = ⊎_elim (λ l. omega arith) (λ l. absurd (true≢false (sym ((cause_1 p).1 ((λ e. absurd (omega arith)), (λ e. absurd (omega arith)))) ∙ ((sound_none p s n).0 ok).0))) (le_or_lt p 8)
+  small_pointer = ⊎_elim (λ l. absurd (true≢false (sym ((cause_1 p).1 ((λ e. absurd (omega arith)), (λ e. absurd (omega arith)))) ∙ ((sound_none p s n).0 ok).0))) (λ l. omega arith) (cases_lt 8 p)
 
 -- ---- the session that is opened
 module _ (S : Session) (section work p modes types enumerators : ℕ) (w t r : List ℕ) (h : 128 ≤ length r) (a : types < 4294967296) (b : enumerators < 4294967296) (c : p < 4294967296) where

@@ -11,8 +11,8 @@ use Rattle.spec_session.specs.session.Answers.{number_of, value_of, answer_of}
 use Rattle.spec_session.specs.session.Turns.{Call, is_current, Reach, reached, refused_by, visits_in, settled, table_for}
 use Rattle.spec_session.proofs.session.Laws.{visits_fit}
 use Rattle.spec_session.specs.calls.Calls.{requested, onward, requested_from, type_call, types_call}
-use Rattle.spec_session.proofs.calls.Claims.{number_is, value_is, Visited, went, stayed, request_counts, types_settle, types_current, types_not_current}
-use Rattle.spec_session.proofs.calls.Lists.{type_single}
+use Rattle.spec_session.proofs.calls.Claims.{Visited, went, stayed, request_counts, types_settle, types_current, types_not_current}
+use Rattle.spec_session.proofs.calls.Lists.{type_single, settled_formed}
 
 -- ---- the visits
 data Few : Reach → Type 0 where
@@ -41,14 +41,6 @@ settled_few S wn tn _ (gone_on len w t) = visits_fit w
 settled_few S wn tn _ (ended_by c len v t l) = l
 
 -- ---- the answer has its own number and value, and no number 0 beside a refusal
-formed_of : (n v : ℕ) → answer_of n v ≡ answer_of (number_of (answer_of n v)) (value_of (answer_of n v))
-formed_of n v = sym (λ i. answer_of (number_is n v i) (value_is n v i))
-
-settled_formed : (S : Session) (wn tn : ℕ) (r : Reach) → (settled S wn tn r).answer ≡ answer_of (number_of (settled S wn tn r).answer) (value_of (settled S wn tn r).answer)
-unfolding settled
-settled_formed S wn tn (reached len w t) = formed_of 0 len
-settled_formed S wn tn (refused_by c len v t) = formed_of c len
-
 -- ---- of a request for one id, and for all
 pub record Fit (c : Call) : Type 0 where
   pub few : c.session.visits < 4294967296

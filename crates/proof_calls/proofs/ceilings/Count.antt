@@ -36,7 +36,7 @@ use Rattle.proof_demands.proofs.demands.Named.{opened_indexed}
 use Rattle.proof_demands.proofs.demands.Sound.{opened_wf}
 use Rattle.proof_demands.proofs.demands.Start.{start_step}
 use Rattle.proof_demands.proofs.demands.Steps.{mark_step, push_step}
-use Rattle.proof_demands.proofs.demands.Session.{table_is}
+use Rattle.proof_demands.proofs.demands.Session.{table_is, counted}
 
 onwards_alike : {S₁ S : Type 0} {P : S₁ → S → Bool → Type 0} {r₁ : Res S₁} {r : Res S} (g₁ : S₁ → Bool → ℕ) (g : S → Bool → ℕ) → Both P r₁ r → ((s : S₁) (t : S) (b : Bool) → P s t b → g₁ s b ≡ g t b) → onwards r₁ g₁ ≡ onwards r g
 unfolding onwards
@@ -139,12 +139,8 @@ module _ (p modes : ℕ) (s : List ℕ) (n : ℕ) (sound : opening_number p s n 
   abbrev X : Machine State
   X = machine_in p modes s n
 
-  counted : T.count ≡ b.types
-  unfolding btf_of
-  counted = refl
-
   inside : (x : ℕ) → x < T.count → x < b.types
-  inside x l = subst (λ (k : ℕ). x < k) counted l
+  inside x l = subst (λ (k : ℕ). x < k) (counted p modes s n sound) l
 
   abbrev Marked : Marks → State → Type 0
   Marked m t = Bears b e s w m.work m.len t
@@ -152,10 +148,10 @@ module _ (p modes : ℕ) (s : List ℕ) (n : ℕ) (sound : opening_number p s n 
   marked_store : AlikeStore work_store X.store T.count (Sized T.count) Marked
   unfolding work_store
   marked_store = record {
-    a_good = λ m t q. record { marks_n = q.marks_n ∙ sym counted; emits_n = q.emits_n ∙ sym counted };
+    a_good = λ m t q. record { marks_n = q.marks_n ∙ sym (counted p modes s n sound); emits_n = q.emits_n ∙ sym (counted p modes s n sound) };
     a_get = λ m t q x l. q.marks x (inside x l);
     a_mark = λ k x m t q l. mark_step b e s w (opened_indexed p modes s n sound) m.work m.len t q x (inside x l) k;
-    a_push = λ x m t q l r. push_step b e s w (opened_indexed p modes s n sound) m.work m.len t q x (inside x l) (subst (λ (k : ℕ). length t.olist < k) counted r);
+    a_push = λ x m t q l r. push_step b e s w (opened_indexed p modes s n sound) m.work m.len t q x (inside x l) (subst (λ (k : ℕ). length t.olist < k) (counted p modes s n sound) r);
   }
 
   module _ (S : Session) (work text₀ : List ℕ) (L : Sess State) (h : Holds p modes s n S work text₀ L) (text : List ℕ) (f : S.text_len ≤ length text) (same : take S.text_len text ≡ take S.text_len text₀) where

@@ -8,7 +8,7 @@ use native.Mathlib.Omega.{arith}
 use lib.ListN.{length, take}
 use lib.Dec.{ltb}
 use borrow.Author.Tests.{ltb-true, ltb-false}
-use Rattle.spec_bytes.proofs.words.Laws.{le_or_lt}
+use Rattle.std.proofs.lemmas.Bool.{cases_lt}
 use Rattle.spec_session.specs.metered.Metered.{calls_in}
 use Rattle.spec_session.specs.declared.session.Session.{Session}
 use Rattle.spec_session.specs.session.Answers.{number_of}
@@ -48,9 +48,9 @@ module _ (S : Session) (section w t : List ℕ) where
       by true false e f =
           let z = plainly 10 (rw (e, type_call_within, type_call, f) refl) (ap (λ (y : Call). number_of y.answer) (type_not_below S section w t id e (ltb-false id S.types f))) in absurd (omega arith)
       by true true e f = ⊎_elim
-          (λ l. fits e f l)
           (λ l. record { current = e; ended = ap (λ (d : CallWithin). d.call) (type_22 S section w t c id k e f l) })
-          (le_or_lt (k + calls_in (table_for S section) section w id) c)
+          (λ l. fits e f l)
+          (cases_lt c (k + calls_in (table_for S section) section w id))
 
   -- the request for all ids: 11 did not come
   abbrev pub every : ℕ → Reach

@@ -1,5 +1,5 @@
 -- What 22 leaves: the text of the requests accepted before it, in a closed session. Assumes nothing but that opening accepts the section.
-use Prim.Native.Nat.{ℕ, zero, suc, ◌+◌, ◌-◌, ◌/◌, ◌%◌, ◌<◌, ◌≤◌}
+use Prim.Native.Nat.{ℕ, zero, suc, ◌+◌, ◌-◌, ◌%◌, ◌<◌, ◌≤◌}
 use mathlib.Core.Path.{◌≡◌, refl, ap, ◌∙◌, sym, subst}
 use mathlib.Core.Bool.{true, false}
 use mathlib.Core.List.{List, [], ◌∷◌}
@@ -9,7 +9,7 @@ use native.Mathlib.Nat.{le_refl}
 use lib.ListN.{length, take}
 use lib.Seq.{length-take-le, take-take}
 use lib.Dec.{eqb}
-use Rattle.spec_bytes.proofs.words.Laws.{le_or_lt}
+use Rattle.std.proofs.lemmas.Bool.{cases_lt}
 use Rattle.spec_c_dumper.specs.rules.Order.{Table}
 use Rattle.spec_c_dumper.specs.rules.Machine.{Machine, Sess, Answer, Req, single, serve, run}
 use Rattle.spec_c_dumper.specs.rules.Names.{Names}
@@ -37,7 +37,7 @@ use Rattle.proof_demands.specs.demands.Table.{header_of, machine_in}
 use Rattle.proof_demands.specs.demands.Session.{Holds, singles_for}
 use Rattle.proof_demands.specs.demands.Demands.{types_in}
 use Rattle.proof_demands.proofs.demands.Described.{count_described}
-use Rattle.proof_demands.proofs.demands.Session.{Going, BothReach, both_reached, both_ended, request_reach, going, type_keeps}
+use Rattle.proof_demands.proofs.demands.Session.{Going, BothReach, both_reached, both_ended, request_reach, going, type_keeps, union_kept, arrays_kept, placing_kept}
 use Rattle.proof_calls.specs.ceilings.Ceilings.{Over, one_more_if, accepted_from, accepted_of, ones_from}
 use Rattle.proof_calls.proofs.ceilings.Over.{TypeOver, type_over, every, TypesOver, types_over}
 
@@ -66,16 +66,6 @@ settled_shut S wn room e len u t L h = record {
   its_text = zeros_head len room t h.fits h.inside len (le_refl len) ∙ h.its_text;
   fits = subst (λ (k : ℕ). len ≤ k) (sym (zeros_length len room t h.fits h.inside)) h.inside;
 }
-
--- the modes that the record keeps say what those at opening said
-union_kept : (m : ℕ) → m % 16 % 2 ≡ m % 2
-union_kept m = omega arith
-
-arrays_kept : (m : ℕ) → m % 16 / 2 % 2 ≡ m / 2 % 2
-arrays_kept m = omega arith
-
-placing_kept : (m : ℕ) → m % 16 / 4 % 2 ≡ m / 4 % 2
-placing_kept m = omega arith
 
 module _ (p modes : ℕ) (s : List ℕ) (n : ℕ) (ok : opening_number p s n ≡ 0) where
   abbrev b : TypeTable
@@ -125,10 +115,10 @@ module _ (p modes : ℕ) (s : List ℕ) (n : ℕ) (ok : opening_number p s n ≡
 
       step_over : Goal (requested_within c b s x len (visits_in v) v t m)
       step_over = ⊎_elim
+          (λ i. subst Goal (sym (request_over c b s x len (visits_in v) v t m i)) (ends_here c))
           (λ i. subst Goal (sym (request_fits c b s x len (visits_in v) v t m i))
           (λ q. next_over F A x (m + calls_in b s v x) len' u' t' (h (m + calls_in b s v x)) L refl (request_reach p modes s n ok len v t room L g x (visits_in v) below) listed q))
-          (λ i. subst Goal (sym (request_over c b s x len (visits_in v) v t m i)) (ends_here c))
-          (le_or_lt (m + calls_in b s v x) c)
+          (cases_lt c (m + calls_in b s v x))
 
     not_reached : (len : ℕ) (v t : List ℕ) (len' u' : ℕ) (t' : List ℕ) → reached len v t ≡ refused_by 22 len' u' t' → ⊥
     not_reached len v t len' u' t' q = let z : ◌≡◌ {A = ℕ} 0 1 = cc in absurd (omega arith)

@@ -7,11 +7,12 @@ use mathlib.Core.Bool.{Bool, true, false, not, ◌&&◌, true≢false}
 use mathlib.Core.List.Memᴰ
 use mathlib.Core.List.{List, [], ◌∷◌, map, Memᴰ}
 use mathlib.Core.Logic.{◌⊎◌, inl, inr}
-use lib.ListN.{length, get_or, get_or-eq_default}
+use lib.ListN.{length, get_or, get_or-eq_default, length-map}
 use lib.Dec.{eqb}
 use borrow.Author.Tests.{eqb-true, lt-ltb}
+use Rattle.std.proofs.lemmas.Bool.{cases_lt}
+use Rattle.std.proofs.lemmas.List.{get_or-map}
 use Rattle.spec_bytes.specs.words.Words.{pick}
-use Rattle.spec_bytes.proofs.words.Laws.{le_or_lt}
 use Rattle.spec_linux_btf.specs.Documentation.{Described}
 use Rattle.spec_linux_btf.specs.Reading.{Bytes}
 use Rattle.spec_linux_btf.specs.Section.{word_of, strings_at}
@@ -54,15 +55,6 @@ use Rattle.spec_opening.specs.Described.{type_list, table_in}
 use Rattle.proof_calls.proofs.described.Types.{same_self, tag_alike, kids_are}
 
 -- ---- a list of types
-
-map_length : {A E : Type 0} (f : A → E) (l : List A) → length (map f l) ≡ length l
-map_length f [] = refl
-map_length f (x ∷ l) = ap suc (map_length f l)
-
-map_at : {A E : Type 0} (f : A → E) (l : List A) (a : A) (e : E) (i : ℕ) → i < length l → get_or (map f l) i e ≡ f (get_or l i a)
-map_at f [] a e i q = absurd (omega (arith, q))
-map_at f (x ∷ l) a e zero q = refl
-map_at f (x ∷ l) a e (suc i) q = map_at f l a e i (omega (arith, q))
 
 -- its DECL_TAGs on an id
 tags_list : (f : ℕ → BtfType) (id : ℕ) (l : List BtfType) (i : ℕ) → ((k : ℕ) → k < length l → f (i + k) ≡ get_or l k Void) → tag_ids f id i (length l) ≡ tags_from id i l
@@ -123,7 +115,7 @@ module _ (p modes : ℕ) (s : List ℕ) (n : ℕ) (y : Bytes s) (ok : opening_nu
       ∙ e
 
   long : length (map (kept (strings_at s) s) ts) ≡ length ts
-  long = map_length (kept (strings_at s) s) ts
+  long = length-map ts (kept (strings_at s) s)
 
   all : types_of s ≡ suc (length ts)
   unfolding types_of
@@ -136,11 +128,11 @@ module _ (p modes : ℕ) (s : List ℕ) (n : ℕ) (y : Bytes s) (ok : opening_nu
 
   pub type_list_lem : (id : ℕ) → B.type_by_id id ≡ get_or l id Void
   type_list_lem zero = d.zero_void
-  type_list_lem (suc i) = go (le_or_lt (length ts) i)
+  type_list_lem (suc i) = go (cases_lt i (length ts))
     where
-      go : (length ts ≤ i) ⊎ (i < length ts) → B.type_by_id (suc i) ≡ get_or (map (kept (strings_at s) s) ts) i Void
-      go (inl q) = d.past_void (suc i) (omega (arith, q, all)) ∙ sym (get_or-eq_default (map (kept (strings_at s) s) ts) Void (omega (arith, q, long)))
-      go (inr q) = type_suc i q ∙ sym (map_at (kept (strings_at s) s) ts void_type Void i q)
+      go : (i < length ts) ⊎ (length ts ≤ i) → B.type_by_id (suc i) ≡ get_or (map (kept (strings_at s) s) ts) i Void
+      go (inl q) = type_suc i q ∙ sym (get_or-map (kept (strings_at s) s) ts i void_type Void q)
+      go (inr q) = d.past_void (suc i) (omega (arith, q, all)) ∙ sym (get_or-eq_default (map (kept (strings_at s) s) ts) Void (omega (arith, q, long)))
 
   pub count_list : B.type_cnt ≡ length l
   count_list = d.count ∙ ap suc (sym long)
@@ -184,11 +176,11 @@ module _ (p modes : ℕ) (s : List ℕ) (n : ℕ) (y : Bytes s) (ok : opening_nu
 
       follows : (v : ℕ) → Memᴰ z (kids (node_of (B.type_by_id v))) → Memᴰ z (followed_ids (type_of ts v))
       follows zero k = absurd (nothing (B.type_by_id 0) d.zero_void k)
-      follows (suc i) k = by (le_or_lt (length ts) i)
+      follows (suc i) k = by (cases_lt i (length ts))
         where
-          by : (length ts ≤ i) ⊎ (i < length ts) → Memᴰ z (followed_ids (get_or ts i void_type))
-          by (inl q) = absurd (nothing (B.type_by_id (suc i)) (d.past_void (suc i) (omega (arith, q, all))) k)
-          by (inr q) = subst (Memᴰ z) (kids_are (strings_at s) s (get_or ts i void_type)) (subst (λ (u : BtfType). Memᴰ z (kids (node_of u))) (type_suc i q) k)
+          by : (i < length ts) ⊎ (length ts ≤ i) → Memᴰ z (followed_ids (get_or ts i void_type))
+          by (inl q) = subst (Memᴰ z) (kids_are (strings_at s) s (get_or ts i void_type)) (subst (λ (u : BtfType). Memᴰ z (kids (node_of u))) (type_suc i q) k)
+          by (inr q) = absurd (nothing (B.type_by_id (suc i)) (d.past_void (suc i) (omega (arith, q, all))) k)
 
       go : (v : ℕ) → v ≤ length ts → is_decl_tag (type_of ts v) ≡ false → NoTag (B.type_by_id v)
       go zero q e = subst NoTag (sym d.zero_void) tt
@@ -251,19 +243,19 @@ module _ (p modes : ℕ) (s : List ℕ) (n : ℕ) (y : Bytes s) (ok : opening_nu
 
     pub definitions : (id : ℕ) → definition N B id (B.type_by_id id) ≡ definition N C id (B.type_by_id id)
     unfolding definition
-    definitions id = go (le_or_lt B.type_cnt id)
+    definitions id = go (cases_lt id B.type_cnt)
       where
-        go : (B.type_cnt ≤ id) ⊎ (id < B.type_cnt) → definition N B id (B.type_by_id id) ≡ definition N C id (B.type_by_id id)
-        go (inl q) = subst (λ (t : BtfType). definition N B id t ≡ definition N C id t) (sym (past id q)) refl
-        go (inr q) = fun_ext (λ u. said_same (definition_same B B.type_cnt B.type_by_id tags Same stands Eq N N naming_same id id (refl, q) u u refl))
+        go : (id < B.type_cnt) ⊎ (B.type_cnt ≤ id) → definition N B id (B.type_by_id id) ≡ definition N C id (B.type_by_id id)
+        go (inl q) = fun_ext (λ u. said_same (definition_same B B.type_cnt B.type_by_id tags Same stands Eq N N naming_same id id (refl, q) u u refl))
+        go (inr q) = subst (λ (t : BtfType). definition N B id t ≡ definition N C id t) (sym (past id q)) refl
 
     pub forwards : (id : ℕ) → forward N B id (B.type_by_id id) ≡ forward N C id (B.type_by_id id)
     unfolding forward
-    forwards id = go (le_or_lt B.type_cnt id)
+    forwards id = go (cases_lt id B.type_cnt)
       where
-        go : (B.type_cnt ≤ id) ⊎ (id < B.type_cnt) → forward N B id (B.type_by_id id) ≡ forward N C id (B.type_by_id id)
-        go (inl q) = subst (λ (t : BtfType). forward N B id t ≡ forward N C id t) (sym (past id q)) refl
-        go (inr q) = fun_ext (λ u. said_same (forward_same B B.type_cnt B.type_by_id tags Same stands Eq N N naming_same id id (refl, q) u u refl))
+        go : (id < B.type_cnt) ⊎ (B.type_cnt ≤ id) → forward N B id (B.type_by_id id) ≡ forward N C id (B.type_by_id id)
+        go (inl q) = fun_ext (λ u. said_same (forward_same B B.type_cnt B.type_by_id tags Same stands Eq N N naming_same id id (refl, q) u u refl))
+        go (inr q) = subst (λ (t : BtfType). forward N B id t ≡ forward N C id t) (sym (past id q)) refl
 
     lines_same : lines_by N B ≡ lines_by N C
     lines_same i = record {

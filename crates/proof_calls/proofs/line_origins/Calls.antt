@@ -9,7 +9,7 @@ use lib.ListN.{length, take, length-append}
 use lib.Seq.{length-take-le}
 use lib.Dec.{ltb}
 use borrow.Author.Tests.{lt-ltb, le-ltb}
-use Rattle.spec_bytes.proofs.words.Laws.{le_or_lt}
+use Rattle.std.proofs.lemmas.Bool.{cases_lt}
 use Rattle.spec_c_dumper.specs.rules.Order.{Table}
 use Rattle.spec_c_dumper.specs.rules.Machine.{Machine, Sess, Answer, gate, single, every}
 use Rattle.spec_c_dumper.specs.rules.Types.{Btf as Rules, table_of}
@@ -163,7 +163,7 @@ module _ (p modes : ℕ) (s : List ℕ) (n : ℕ) (ok : opening_number p s n ≡
       type_stepped = by L.is_open refl
         where
           by : (o : Bool) → L.is_open ≡ o → At (type_causes S s work text x l) single'
-          by true o = ⊎_elim (λ j. step_past o j) (λ j. step_open o j) (le_or_lt T.count x)
+          by true o = ⊎_elim (λ j. step_open o j) (λ j. step_past o j) (cases_lt x T.count)
           by false o = step_closed o
 
     -- ---- all ids

@@ -7,7 +7,7 @@ use mathlib.Core.Logic.{⊎_elim}
 use native.Mathlib.Omega.{arith}
 use lib.ListN.{length, take, drop, length-append, length-drop}
 use lib.Dec.{ltb}
-use Rattle.spec_bytes.proofs.words.Laws.{le_or_lt}
+use Rattle.std.proofs.lemmas.Bool.{cases_lt}
 use Rattle.spec_c_dumper.specs.rules.Order.{Table, Res, ok, refused}
 use Rattle.spec_c_dumper.specs.rules.Machine.{Out, wrote, stuck, Machine, shut}
 use Rattle.spec_c_dumper.specs.rules.Types.{Btf as Rules, table_of}
@@ -34,7 +34,7 @@ use Rattle.proof_calls.proofs.line_origins.Calls.{Stepped, type_stepped}
 text_long : (S : Session) (s work text : List ℕ) (x : ℕ) (l : List ℕ) → number_of (type_causes S s work text x l).call.answer ≡ 0 → length (type_causes S s work text x l).call.text ≡ length text
 text_long S s work text x l e =
     let fit : CauseFits (type_call S s work text x) (λ k. type_causes S s work text x k) = type_fits S s work text x in
-    ⊎_elim (λ r. ap (λ (d : Call). length d.text) (fit.same l r) ∙ (type_single S s work text x).long) (λ r. absurd (let z : 17 ≡ 0 = sym (fit.short l r) ∙ e in omega arith)) (le_or_lt fit.need (entries_in l))
+    ⊎_elim (λ r. absurd (let z : 17 ≡ 0 = sym (fit.short l r) ∙ e in omega arith)) (λ r. ap (λ (d : Call). length d.text) (fit.same l r) ∙ (type_single S s work text x).long) (cases_lt (entries_in l) fit.need)
 
 -- what a request for x comes to: if it is accepted, x is among those asked for; a refused one is not
 record Asks {M : Type 0} (told : Explaining M) (x : ℕ) (t : Explaining M) : Type 0 where

@@ -9,7 +9,7 @@ use native.Mathlib.Omega.{arith}
 use lib.ListN.{length, take}
 use lib.Dec.{ltb}
 use borrow.Author.Tests.{lt-ltb}
-use Rattle.spec_bytes.proofs.words.Laws.{le_or_lt}
+use Rattle.std.proofs.lemmas.Bool.{cases_lt}
 use Rattle.spec_c_dumper.specs.rules.Order.{Table}
 use Rattle.spec_c_dumper.specs.rules.Machine.{Out, wrote, stuck, Machine, Sess, Answer}
 use Rattle.spec_c_dumper.specs.rules.Types.{Btf as Rules, table_of}
@@ -45,9 +45,9 @@ module _ (c : ℕ) (es : List Entry) (l : length es ≤ c) (F : (ℕ → Bool) �
   lined_positive : ((k : ℕ) → P ≡ stuck k → 0 < k) → (k : ℕ) → forget (F (up_to c)) ≡ stuck k → 0 < k
   unfolding forget
   lined_positive p k q = ⊎_elim
-      (λ f. p k (sym h.same ∙ ap forget (sym (h.fits c f)) ∙ q))
       (λ f. let z : 17 ≡ k = ap number_in (ap forget (sym (h.short c l f)) ∙ q) in omega arith)
-      (le_or_lt h.need c)
+      (λ f. p k (sym h.same ∙ ap forget (sym (h.fits c f)) ∙ q))
+      (cases_lt c h.need)
 
   lined_held : length (entries_after es (F (up_to c))) ≤ c
   unfolding entries_after
@@ -55,9 +55,9 @@ module _ (c : ℕ) (es : List Entry) (l : length es ≤ c) (F : (ℕ → Bool) �
     where
       go : (o : Out (Noted Sheet)) → F (up_to c) ≡ o → length (entries_after es o) ≤ c
       go (wrote m) q = ⊎_elim
-          (λ f. let z : length m.entries ≡ h.need = h.counts m (sym (h.fits c f) ∙ q) in omega arith)
           (λ f. let y : wrote m ≡ stuck 17 = sym q ∙ h.short c l f in absurd (let z : ◌≡◌ {A = ℕ} 0 1 = cc in omega arith))
-          (le_or_lt h.need c)
+          (λ f. let z : length m.entries ≡ h.need = h.counts m (sym (h.fits c f) ∙ q) in omega arith)
+          (cases_lt c h.need)
       go (stuck k) q = l
 
 module _ (p modes : ℕ) (s : List ℕ) (n : ℕ) (ok : opening_number p s n ≡ 0) where

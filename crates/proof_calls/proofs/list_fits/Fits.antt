@@ -6,7 +6,7 @@ use mathlib.Core.List.{List, [], ◌∷◌, ◌++◌, append-nil}
 use mathlib.Core.Logic.{⊎_elim}
 use native.Mathlib.Omega.{arith}
 use lib.ListN.{length, take, drop, length-append, length-drop, take-append-drop}
-use Rattle.spec_bytes.proofs.words.Laws.{le_or_lt}
+use Rattle.std.proofs.lemmas.Bool.{cases_lt}
 use Rattle.spec_session.specs.declared.session.Session.{Session}
 use Rattle.spec_session.specs.session.Answers.{number_of, answer_of}
 use Rattle.spec_session.specs.session.Turns.{Call, call_of}
@@ -69,7 +69,7 @@ module _ (n : ℕ) (c : Call) (G : List ℕ → CauseCall) (h : CauseFits c G) (
       same = λ l r. ap (λ (d : CauseCall). d.call) (stops (G l) m (number_is (suc m) e l r)) ∙ ap (λ (d : Call). call_of d.session (answer_of (suc m) n) d.work d.text) (h.same l r) ∙ sym (plain_stops m e);
       counts = λ l r. ap (λ (d : CauseCall). d.count) (stops (G l) m (number_is (suc m) e l r)) ∙ h.counts l r;
       lists = λ z l r. subst (λ (d : CauseCall). Listed (length l) h.entries d.list) (sym (stops (G l) m (number_is (suc m) e l r))) (h.lists z l r);
-      leaves = λ z l. ⊎_elim (λ r. ap (λ (d : CauseCall). d.list) (stops (G l) m (number_is (suc m) e l r)) ∙ h.leaves z l) (λ r. ap (λ (d : CauseCall). d.list) (stops (G l) 16 (h.short l r)) ∙ h.leaves z l) (le_or_lt h.need (entries_in l));
+      leaves = λ z l. ⊎_elim (λ r. ap (λ (d : CauseCall). d.list) (stops (G l) 16 (h.short l r)) ∙ h.leaves z l) (λ r. ap (λ (d : CauseCall). d.list) (stops (G l) m (number_is (suc m) e l r)) ∙ h.leaves z l) (cases_lt (entries_in l) h.need);
       short = short_first;
     };
     none = λ z. (quieted z).0;
@@ -137,16 +137,16 @@ module _ (n : ℕ) (c : Call) (G : List ℕ → CauseCall) (h : CauseFits c G) (
           counts = λ l r. ap (λ (d : CauseCall). d.count) (whole l (room_first l r)) ∙ ap (λ (x : ℕ). length es + x) (q.fits.counts (rest l) (room_after l r)) ∙ sym (length-append es fs);
           lists = λ z l r. subst (λ (d : CauseCall). Listed (length l) (es ++ fs) d.list) (sym (whole l (room_first l r))) (listed_next l (room_first l r) q.fits.zeroed refl (room_after l r));
           leaves = λ z. absurd (true≢false z);
-          short = λ l r. ⊎_elim (short_after l r) (short_first l) (le_or_lt h.need (entries_in l));
+          short = λ l r. ⊎_elim (short_first l) (short_after l r) (cases_lt (entries_in l) h.need);
         };
         none = λ z. absurd (true≢false z);
       }
 
     accepted_fits : Fits (then_next n c P) F
     accepted_fits = ⊎_elim
-        (λ k. accepted_by (length es + q.fits.need) k (omega arith) (λ x a b. b))
         (λ k. accepted_by h.need (omega arith) (omega arith) (λ x a b. absurd (omega arith)))
-        (le_or_lt h.need (length es + q.fits.need))
+        (λ k. accepted_by (length es + q.fits.need) k (omega arith) (λ x a b. b))
+        (cases_lt (length es + q.fits.need) h.need)
 
   one_more : Fits (then_next n c P) F
   one_more = go (number_of c.answer) refl

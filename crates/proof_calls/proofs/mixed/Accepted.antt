@@ -8,7 +8,7 @@ use mathlib.Core.Logic.{⊎_elim}
 use native.Mathlib.Omega.{arith}
 use lib.ListN.{length, length-append}
 use lib.Dec.{ltb}
-use Rattle.spec_bytes.proofs.words.Laws.{le_or_lt}
+use Rattle.std.proofs.lemmas.Bool.{cases_lt}
 use Rattle.spec_c_dumper.specs.rules.Order.{Table, Res, ok, refused}
 use Rattle.spec_c_dumper.specs.rules.Machine.{Out, wrote, stuck, Machine, emit, Sess, Answer, Req, one, shut, single, serve, run}
 use Rattle.proof_demands.specs.demands.Session.{singles_for}
@@ -33,7 +33,7 @@ module _ {M : Type 0} (X : Machine M) (T : Table) (shows : ℕ → Bool) (nz : N
     listed_not : (s : Led M) → each_listed X T (up_to c) shows (listed_entry x s.led) (X.store.list s.state) (begun s) ≡ stuck 0 → ⊥
     listed_not s e =
         let h = each_lined (Numbered X) (λ r m y. emit_noted X r shows (listed_entry x s.led) T 512 m y 0) (λ m y. emit X T 512 m y 0) (λ m y. emit_lined X shows (listed_entry x s.led) T 512 m y 0) (X.store.list s.state) (begun s) in
-        ⊎_elim (λ q. h.numbered nz (sym (h.fits c q) ∙ e)) (λ q. let z : stuck 17 ≡ stuck 0 = sym (h.short c few q) ∙ e in let y : ◌≡◌ {A = ℕ} 17 0 = cc in omega arith) (le_or_lt h.need c)
+        ⊎_elim (λ q. let z : stuck 17 ≡ stuck 0 = sym (h.short c few q) ∙ e in let y : ◌≡◌ {A = ℕ} 17 0 = cc in omega arith) (λ q. h.numbered nz (sym (h.fits c q) ∙ e)) (cases_lt c h.need)
 
     dropped_came : t.answer.sess.is_open ≡ true → (e : ℕ) → (e ≡ 0 → ⊥) → Came x t (dropped X T (up_to c) shows t e)
     unfolding dropped shut
@@ -69,9 +69,9 @@ module _ {M : Type 0} (X : Machine M) (T : Table) (shows : ℕ → Bool) (nz : N
     accepted_is z =
         let h : FitsList (length t.entries) (λ r. single_noted X T r shows size x t) (single X T size t.answer.sess x) = single_fits X T shows nz size x t in
         ⊎_elim
+        (λ q. absurd (let y : ◌≡◌ {A = ℕ} 17 0 = sym (h.short c few q) ∙ z in omega arith))
         (λ q. let held : length (single_noted X T always shows size x t).entries ≤ h.need = h.held in
-        (ap (λ (u : Explaining M). u.answer) (h.fits c q) ∙ h.same, subst (λ (u : Explaining M). length u.entries ≤ c) (sym (h.fits c q)) (omega arith)))
-        (λ q. absurd (let y : ◌≡◌ {A = ℕ} 17 0 = sym (h.short c few q) ∙ z in omega arith)) (le_or_lt h.need c)
+        (ap (λ (u : Explaining M). u.answer) (h.fits c q) ∙ h.same, subst (λ (u : Explaining M). length u.entries ≤ c) (sym (h.fits c q)) (omega arith))) (cases_lt c h.need)
 
   -- the requests of a call: so many are accepted, and then 17 closes the session
   pub record Accepted (reqs : ℕ → List Req) (t u : Explaining M) : Type 0 where

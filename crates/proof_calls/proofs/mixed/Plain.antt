@@ -4,7 +4,7 @@ use mathlib.Core.Path.{◌≡◌, refl, sym, subst}
 use mathlib.Core.List.{List, [], ◌∷◌, ◌++◌}
 use mathlib.Core.Logic.{⊎_elim}
 use lib.ListN.{length}
-use Rattle.spec_bytes.proofs.words.Laws.{le_or_lt}
+use Rattle.std.proofs.lemmas.Bool.{cases_lt}
 use Rattle.spec_c_dumper.specs.rules.Machine.{Req, one, all}
 use Rattle.spec_session.specs.declared.session.Session.{Session}
 use Rattle.spec_session.specs.session.Answers.{number_of}
@@ -22,7 +22,7 @@ use Rattle.proof_calls.specs.mixed.Mixed.{Aid, none, ceiling, list, type_with, t
 
 -- a list that has room
 fits_plain : (c : Call) (F : List ℕ → CauseCall) → CauseFits c F → (l : List ℕ) → (number_of (F l).call.answer ≡ 17 → ⊥) → (F l).call ≡ c
-fits_plain c F h l q = ⊎_elim (λ r. h.same l r) (λ r. absurd (q (h.short l r))) (le_or_lt h.need (entries_in l))
+fits_plain c F h l q = ⊎_elim (λ r. absurd (q (h.short l r))) (λ r. h.same l r) (cases_lt (entries_in l) h.need)
 
 module _ (s : List ℕ) (S : Session) (w t : List ℕ) where
   pub type_plain : (a : Aid) (id : ℕ) → Goes a (type_with a S s w t id) → type_with a S s w t id ≡ type_call S s w t id

@@ -25,7 +25,8 @@ use Rattle.spec_session.specs.declared.session.Session.{Session}
 use Rattle.spec_session.specs.session.Turns.{Call, Reach, reached, refused_by, is_current, settled}
 use Rattle.spec_session.specs.calls.Calls.{opened_call, open_call, types_call}
 use Rattle.spec_session.proofs.calls.Laws.{opens_sound, opens_refused}
-use Rattle.spec_session.proofs.calls.Claims.{number_is, value_is, types_settle, types_current, types_not_current}
+use Rattle.spec_session.proofs.calls.Claims.{types_settle, types_current, types_not_current}
+use Rattle.spec_session.proofs.calls.Lists.{formed_of}
 use Rattle.spec_c_dumper.specs.needs.Lists.{Ls, afresh}
 use Rattle.spec_c_dumper.specs.needs.Session.{Known, text_of, machine, opened, program}
 use Rattle.proof_demands.specs.demands.Table.{names_in}
@@ -84,17 +85,14 @@ line_shows t n e =
 
 -- ---- a call for all ids: its answer is that of its number and value, and the text is as long as it was
 
-answer_is : (n v : ℕ) → answer_of n v ≡ answer_of (number_of (answer_of n v)) (value_of (answer_of n v))
-answer_is n v = sym (λ i. answer_of (number_is n v i) (value_is n v i))
-
 module _ (S : Session) (s work text : List ℕ) where
   abbrev d : Call
   d = types_call S s work text
 
   settled_is : (r : Reach) → (settled S (length work) (length text) r).answer ≡ answer_of (number_of (settled S (length work) (length text) r).answer) (value_of (settled S (length work) (length text) r).answer)
   unfolding settled
-  settled_is (reached len w t) = answer_is 0 len
-  settled_is (refused_by c len v t) = answer_is c len
+  settled_is (reached len w t) = formed_of 0 len
+  settled_is (refused_by c len v t) = formed_of c len
 
   types_answer : d.answer ≡ answer_of (number_of d.answer) (value_of d.answer)
   unfolding number_of value_of answer_of

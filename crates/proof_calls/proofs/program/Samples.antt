@@ -1,11 +1,12 @@
 -- The samples hold, by computation on their sections and on the rules. Assumes nothing.
 use Prim.Native.Nat.{ℕ, zero, suc}
-use mathlib.Core.Path.{◌≡◌, refl, sym, ◌∙◌, ap}
-use mathlib.Core.Bool.{Bool, true, false, ◌&&◌, true≢false}
+use mathlib.Core.Path.{◌≡◌, refl, ◌∙◌, ap}
+use mathlib.Core.Bool.{Bool, true, false, ◌&&◌}
 use mathlib.Core.List.{List, [], ◌∷◌}
 use native.Mathlib.Omega.{arith}
 use lib.Dec.{ltb}
 use borrow.Author.Tests.{ltb-true}
+use Rattle.std.proofs.lemmas.Bool.{and_parts}
 use Rattle.spec_bytes.specs.words.Words.{one_more, word_at, word_in}
 use Rattle.spec_bytes.specs.text.Text.{ascii, join, bytes, pfx}
 use Rattle.spec_bytes.specs.text.Decimal.{digits, decimal}
@@ -50,15 +51,11 @@ all_below : List ℕ → Bool
 all_below [] = true
 all_below (x ∷ l) = ltb x 256 && all_below l
 
-and_both : (a b : Bool) → (a && b) ≡ true → (a ≡ true) × (b ≡ true)
-and_both true b h = (refl, h)
-and_both false b h = absurd (true≢false (sym h))
-
 all_bytes : (l : List ℕ) → all_below l ≡ true → Bytes l
 unfolding all_below
 all_bytes [] h i = omega arith
-all_bytes (x ∷ l) h zero = ltb-true x 256 (and_both (ltb x 256) (all_below l) h).0
-all_bytes (x ∷ l) h (suc i) = all_bytes l (and_both (ltb x 256) (all_below l) h).1 i
+all_bytes (x ∷ l) h zero = ltb-true x 256 (and_parts (ltb x 256) (all_below l) h).0
+all_bytes (x ∷ l) h (suc i) = all_bytes l (and_parts (ltb x 256) (all_below l) h).1 i
 
 node_bytes : Bytes node
 unfolding all_below

@@ -6,12 +6,11 @@ use mathlib.Core.Bool.{Bool, true, false, true≢false}
 use mathlib.Core.List.{List, [], ◌∷◌, map}
 use lib.ListN.{length, drop, get_or-eq_default}
 use lib.Seq.{drop-length, drop-cons}
-use lib.Dec.{leb}
 use borrow.Author.Tests.{lt-ltb, le-ltb}
 use Rattle.spec_linux_btf.specs.Documentation.{Described}
 use Rattle.spec_linux_btf.specs.Reading as reading
 use Rattle.spec_linux_btf.specs.Reading.{kind, kind_table, none, shape, known, extra}
-use Rattle.spec_linux_btf.specs.Places.{vlen_p, kind_p, size_p, place_from, sound_p}
+use Rattle.spec_linux_btf.specs.Places.{vlen_p, kind_p, size_p, place_from}
 use Rattle.spec_linux_btf.specs.Section.{is_big_endian, word_of, type_len_of, types_at, strings_at, header_sound}
 use Rattle.spec_linux_btf.proofs.Claims.{section_ends, section_inside, section_sound_at}
 use Rattle.spec_c_dumper.specs.rules.Types.{BtfType, Void}
@@ -21,7 +20,7 @@ use Rattle.spec_type_table.specs.Records.{vlen_of, kind_of, extra_of, record_at}
 use Rattle.spec_type_table.specs.Table.{type_of}
 use Rattle.spec_type_table.proofs.KindLaws.{by_kind}
 use Rattle.spec_type_table.proofs.Documented.{words_same, section_documented}
-use Rattle.btf_open_causes.proofs.header.Headers.{and_left, and_right, read4, read8, read12, read16}
+use Rattle.btf_open_causes.proofs.header.Headers.{read4, read8, read12, read16}
 use Rattle.spec_type_table.specs.Documented.{kept}
 use Rattle.spec_opening.specs.Table.{described_in}
 use Rattle.spec_opening.specs.Described.{type_list}
@@ -29,6 +28,7 @@ use Rattle.spec_opening.proofs.Order.{sound_none}
 use Rattle.spec_opening.proofs.Claims.{HeaderIs, cause_3}
 use Rattle.spec_opening.proofs.ReadBack.{header_ok, types_ok}
 use Rattle.spec_cut.specs.section.Kept.{void_type}
+use Rattle.spec_cut.proofs.reopened.Followed.{sound_known}
 use Rattle.proof_examples.specs.vectors.Reading.{types_from, types_of}
 use Rattle.proof_calls.specs.program.Claims.{number}
 
@@ -86,10 +86,6 @@ module _ (b : TypeTable) (s : List ℕ) (end : ℕ) where
   from_end (suc n) at l = ap (λ (o : Bool). elim o as (λ _. List BtfType) [ false ↦ [] | true ↦ goes n at (follow at) ]) (le-ltb at end l)
 
 -- ---- the section
-
-sound_known : (w : ℕ → ℕ) (len p : ℕ) → sound_p w len p ≡ true → known (shape (kind (kind_p w p))) ≡ true
-unfolding sound_p
-sound_known w len p h = and_left _ _ (and_right (leb (p + 12) len) _ h)
 
 module _ (s : List ℕ) (y : reading.Bytes s) (ok : number s ≡ 0) where
   abbrev ts : List Described

@@ -7,8 +7,9 @@ use mathlib.Core.List.{List, []}
 use mathlib.Core.Logic.{⊎_elim, ◌≢◌}
 use lib.ListN.{length}
 use lib.Dec.{ltb, leb, eqb}
+use Rattle.std.proofs.lemmas.Bool.{cases_lt}
 use Rattle.spec_bytes.specs.words.Words.{get_word, put_word, one_more}
-use Rattle.spec_bytes.proofs.words.Laws.{le_or_lt, put_out, put_length, get_put_same, get_put_other}
+use Rattle.spec_bytes.proofs.words.Laws.{put_out, put_length, get_put_same, get_put_other}
 use Rattle.spec_c_dumper.specs.rules.Writer.{Ask}
 use Rattle.spec_c_dumper.specs.rules.Layout.{bit_padding}
 use Rattle.spec_c_dumper.specs.rules.Placing.{body_packed}
@@ -52,9 +53,9 @@ module _ (w u : List ℕ) (a : Agree w u) where
       here : (i % 16 ≡ 15 → ⊥) → (i ≡ 2 → ⊥) → get_word (put_word w i v) i ≡ get_word (put_word u i v) i
       here n m =
           ⊎_elim
-          (λ l. let l' : length u / 4 ≤ i = subst (λ (x : ℕ). x / 4 ≤ i) a.long l in ap (λ (x : List ℕ). get_word x i) (put_out w i v l) ∙ a.words i n m ∙ ap (λ (x : List ℕ). get_word x i) (sym (put_out u i v l')))
           (λ l. let l' : i < length u / 4 = subst (λ (x : ℕ). i < x / 4) a.long l in get_put_same w i v l ∙ sym (get_put_same u i v l'))
-          (le_or_lt (length w / 4) i)
+          (λ l. let l' : length u / 4 ≤ i = subst (λ (x : ℕ). x / 4 ≤ i) a.long l in ap (λ (x : List ℕ). get_word x i) (put_out w i v l) ∙ a.words i n m ∙ ap (λ (x : List ℕ). get_word x i) (sym (put_out u i v l')))
+          (cases_lt i (length w / 4))
 
   agree_more : (i : ℕ) → (i % 16 ≡ 15 → ⊥) → (i ≡ 2 → ⊥) → Agree (with_more w i) (with_more u i)
   unfolding with_more
@@ -73,9 +74,9 @@ module _ (types : ℕ) where
   pub place_off : (f g : ℕ) → f < 15 → f ≢ 2 → g < 7 → g ≢ 2 → (h : ℕ) → Off (place_of types f g h)
   place_off f g l nf m ng h =
       ⊎_elim
-      (λ k. let e : place_of types f g h ≡ types * 16 + (h - types) * 8 + g = sym (place_enum types f g h k) in (λ q. omega (arith, e, q, m), λ q. ng (omega (arith, e, q, m))))
       (λ k. let e : place_of types f g h ≡ h * 16 + f = sym (place_type types f g h k) in (λ q. omega (arith, e, q, l), λ q. nf (omega (arith, e, q, l))))
-      (le_or_lt types h)
+      (λ k. let e : place_of types f g h ≡ types * 16 + (h - types) * 8 + g = sym (place_enum types f g h k) in (λ q. omega (arith, e, q, m), λ q. ng (omega (arith, e, q, m))))
+      (cases_lt h types)
 
   class_apart : (h : ℕ) → Off (class_p types h)
   class_apart = place_off 5 1 (omega arith) (λ q. omega arith) (omega arith) (λ q. omega arith)
@@ -84,9 +85,9 @@ module _ (types : ℕ) where
   pub count_apart : 1 ≤ types → (h : ℕ) → Off (count_p types h)
   count_apart some h =
       ⊎_elim
-      (λ l. let e : count_p types h ≡ types * 16 + (h - types) * 8 + 2 = sym (place_enum types 6 2 h l) in (λ q. omega (arith, e, q), λ q. omega (arith, e, q, some)))
       (λ l. let e : count_p types h ≡ h * 16 + 6 = sym (place_type types 6 2 h l) in (λ q. omega (arith, e, q), λ q. omega (arith, e, q)))
-      (le_or_lt types h)
+      (λ l. let e : count_p types h ≡ types * 16 + (h - types) * 8 + 2 = sym (place_enum types 6 2 h l) in (λ q. omega (arith, e, q), λ q. omega (arith, e, q, some)))
+      (cases_lt h types)
 
 -- ---- what the memory reads
 pub record Memory (w₂ w : List ℕ) : Type 0 where

@@ -9,8 +9,9 @@ use mathlib.Core.Logic.{⊎_elim, ◌≢◌}
 use lib.ListN.{length}
 use lib.Dec.{ltb, eqb}
 use borrow.Author.Tests.{le-ltb}
+use Rattle.std.proofs.lemmas.Bool.{cases_lt}
 use Rattle.spec_bytes.specs.words.Words.{get_word}
-use Rattle.spec_bytes.proofs.words.Laws.{le_or_lt, put_length, get_put_other}
+use Rattle.spec_bytes.proofs.words.Laws.{put_length, get_put_other}
 use Rattle.spec_c_dumper.specs.rules.Writer.{Writer}
 use Rattle.spec_c_dumper.specs.rules.Types.{Member, Btf as Rules}
 use Rattle.spec_c_dumper.specs.rules.Layout.{Pad}
@@ -124,9 +125,9 @@ module _ (b : TypeTable) (e : ℕ) (s w : List ℕ) (Z : Sane b (btf_of b s w)) 
       here : K.recall (K.remember id x v) id ≡ (table_keep n).remember id x f id
       here =
           ⊎_elim
-          (λ l. work_past n id l B (K.remember id x v) ∙ sym (work_past n id l B v) ∙ p.2 id ∙ sym (table_past n id l x f))
           (λ l. (work_lawful n B).same id x v (tells_fits B Z.small id x t h) long l ∙ sym ((table_lawful n).same id x f tt tt l))
-          (le_or_lt n id)
+          (λ l. work_past n id l B (K.remember id x v) ∙ sym (work_past n id l B v) ∙ p.2 id ∙ sym (table_past n id l x f))
+          (cases_lt id n)
 
   -- ---- naming
   moved : (u : Minded Names Table) (v v' : List ℕ) (u' : Names) → Pair v u → ((j : ℕ) → get_field v' j 15 ≡ get_field v j 15) → Alike b e s w v' u' → Linked u' v' u.memory

@@ -9,7 +9,7 @@ use mathlib.Core.Logic.{inr, ⊎_elim}
 use lib.ListN.{length, take}
 use lib.Dec.{ltb, eqb}
 use borrow.Author.Tests.{eq-eqb, lt-ltb, le-ltb}
-use Rattle.spec_bytes.proofs.words.Laws.{le_or_lt}
+use Rattle.std.proofs.lemmas.Bool.{cases_lt}
 use Rattle.spec_c_dumper.specs.rules.Order.{Table as Types}
 use Rattle.spec_c_dumper.specs.rules.Machine.{Out, stuck, Machine, Sess, Answer, ordered, ordering, gate, single, onward, from, every, Req, one, all, serve, run}
 use Rattle.spec_c_dumper.specs.rules.Types.{Btf as Rules, table_of}
@@ -216,10 +216,10 @@ module _ (p modes : ℕ) (s : List ℕ) (n : ℕ) (ok : opening_number p s n ≡
         by : (o : Bool) → L.is_open ≡ o → KeptCall (type_call S s work text x) (single X T room L x).sess (single X₂ T room A x).sess
         by true o =
             ⊎_elim
+            (λ l. type_open x o l)
             (λ l. left_kept _ _ _ 10 (type_not_below S s work text x (current p modes s n ok S work text₀ L h text f same o) (subst (λ (k : ℕ). k ≤ x) (sym (types_is p modes s n ok S work text₀ L h text f same)) l))
             (single_past X T room L x o l) (single_past X₂ T room A x (near.same_open ∙ o) l))
-            (λ l. type_open x o l)
-            (le_or_lt T.count x)
+            (cases_lt x T.count)
         by false o = left_kept _ _ _ 11 (type_not_current S s work text x (closed_stays S s work text (h.is_open ∙ o))) (single_shut X T room L x o) (single_shut X₂ T room A x (near.same_open ∙ o))
 
     every_near : BothAnswer NearTo (every X₂ T room A A.is_open) (every X T room L L.is_open)

@@ -8,7 +8,7 @@ use mathlib.Core.List.{List, [], ◌∷◌, ◌++◌, Memᴰ}
 use mathlib.Core.Logic.{◌⊎◌, inl, inr, ⊎_elim}
 use native.Mathlib.Omega.{arith}
 use lib.ListN.{length, take, replicate}
-use Rattle.spec_bytes.proofs.words.Laws.{le_or_lt}
+use Rattle.std.proofs.lemmas.Bool.{cases_lt}
 use Rattle.spec_c_dumper.specs.rules.Order.{Table, Res, ok, refused}
 use Rattle.spec_c_dumper.specs.rules.Machine.{Out, wrote, stuck, Machine, Sess, Answer, shut, emitted, ordered, ordering, single, eeach, emit, Req, serve, run}
 use Rattle.spec_c_dumper.specs.rules.Types.{Btf as Rules}
@@ -28,7 +28,7 @@ use Rattle.proof_demands.specs.demands.Table.{opened_table, names_in, machine_in
 use Rattle.proof_demands.specs.demands.Session.{Holds, Tells, singles_for, made, After, after_list}
 use Rattle.proof_demands.specs.demands.Demands.{Lent, AddsNothing, types_in, ruled, Demand2}
 use Rattle.proof_demands.proofs.demands.Sound.{opened_wf}
-use Rattle.proof_demands.proofs.demands.Session.{BothReach, both_reached, both_ended, request_reach, single_is, going, current, types_is, made_more, type_keeps, after_holds, run_then}
+use Rattle.proof_demands.proofs.demands.Session.{BothReach, both_reached, both_ended, request_reach, single_is, going, current, types_is, made_more, type_keeps, after_holds, run_then, no_ids}
 
 module _ (p modes : ℕ) (s : List ℕ) (n : ℕ) (fine : opening_number p s n ≡ 0) where
   abbrev B : Rules
@@ -100,9 +100,9 @@ module _ (p modes : ℕ) (s : List ℕ) (n : ℕ) (fine : opening_number p s n �
     below : x < T.count
     unfolding number_of
     below = ⊎_elim
-        (λ q. let e : number_of (type_call S s work text x).answer ≡ 10 = ap (λ (c : Call). number_of c.answer) (type_not_below S s work text x (current p modes s n fine S work text₀ L h text f same o) (subst (λ (j : ℕ). j ≤ x) (sym (types_is p modes s n fine S work text₀ L h text f same)) q)) in absurd (omega arith))
         (λ q. q)
-        (le_or_lt T.count x)
+        (λ q. let e : number_of (type_call S s work text x).answer ≡ 10 = ap (λ (c : Call). number_of c.answer) (type_not_below S s work text x (current p modes s n fine S work text₀ L h text f same o) (subst (λ (j : ℕ). j ≤ x) (sym (types_is p modes s n fine S work text₀ L h text f same)) q)) in absurd (omega arith))
+        (cases_lt x T.count)
 
     opens : b.sess.is_open ≡ true
     opens =
@@ -119,11 +119,6 @@ module _ (p modes : ℕ) (s : List ℕ) (n : ℕ) (fine : opening_number p s n �
 
   abbrev Asks : List ℕ → Sess State → Sess State → Type 0
   Asks ids L L' = (L'.is_open ≡ true) × ((y : ℕ) → Memᴰ y L.asked ⊎ Memᴰ y ids → Memᴰ y L'.asked)
-
-  no_ids : (room j : ℕ) → singles_for room j [] ≡ []
-  unfolding singles_for
-  no_ids room zero = refl
-  no_ids room (suc j) = refl
 
   -- the first id of a list that is accepted as a whole
   module _ (k : ℕ) (S : Session) (work text : List ℕ) (x : ℕ) (ids : List ℕ) where
@@ -171,7 +166,7 @@ module _ (p modes : ℕ) (s : List ℕ) (n : ℕ) (fine : opening_number p s n �
       → L.is_open ≡ true → number_of (list_from k S s work text ids).answer ≡ 0 → Asks ids L (after (length text) k (list_from k S s work text ids) ids L)
   unfolding list_from run
   list_asks [] k S work text₀ L h text f same o e =
-      subst (λ (qs : List Req). Asks [] L (run X T qs L)) (sym (no_ids (length text) (made k (list_from k S s work text [])))) (o, λ y m. ⊎_elim (λ q. q) (λ q. absurd (Memᴰ.not-nil q)) m)
+      subst (λ (qs : List Req). Asks [] L (run X T qs L)) (sym (no_ids p modes s n fine (length text) (made k (list_from k S s work text [])))) (o, λ y m. ⊎_elim (λ q. q) (λ q. absurd (Memᴰ.not-nil q)) m)
   list_asks (x ∷ ids) k S work text₀ L h text f same o e =
       let z : number_of (type_call S s work text x).answer ≡ 0 = first_accepted k S work text x ids e in
       asks_next k S work text₀ L h text f same o x ids z
@@ -201,9 +196,6 @@ module _ (p modes : ℕ) (s : List ℕ) (n : ℕ) (fine : opening_number p s n �
 
     still_open : before.session.«open» ≡ true
     still_open = (d2 before qs then).is_open ∙ ap (λ (L : Sess State). L.is_open) joined ∙ asks.0
-
-    next : Call
-    next = type_call before.session s before.work before.text x
 
     lent : Lent before before.text
     lent = record { long = (after_holds p modes s n fine then).fits; begins = refl }

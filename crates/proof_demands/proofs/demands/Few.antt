@@ -5,23 +5,23 @@ use mathlib.Core.Path.{◌≡◌, refl, ap, ◌∙◌, sym, subst}
 use mathlib.Core.Bool.{true}
 use mathlib.Core.List.{List}
 use mathlib.Core.Logic.{⊎_elim}
-use lib.ListN.{length}
 use borrow.Author.Tests.{lt-leb, ne_eqb}
-use Rattle.spec_bytes.proofs.words.Laws.{le_or_lt}
+use Rattle.std.proofs.lemmas.Bool.{cases_lt}
+use Rattle.std.specs.Cmp.{first_so, second_so}
 use Rattle.spec_c_dumper.specs.rules.Types.{Btf as Rules}
 use Rattle.spec_type_table.specs.declared.types.TypeTable.{TypeTable}
 use Rattle.spec_type_table.specs.declared.types.BtfType.{BtfType as Record}
 use Rattle.spec_type_table.specs.Records.{section_word, kind_of, vlen_of, member_of, record_at, void_record, record_by_id}
 use Rattle.spec_type_table.specs.Cells.{get_field}
-use Rattle.spec_type_table.specs.Table.{from, rule_member, type_of, btf_of}
+use Rattle.spec_type_table.specs.Table.{rule_member, type_of, btf_of}
 use Rattle.spec_type_table.proofs.KindLaws.{by_kind}
+use Rattle.spec_type_table.proofs.Laws.{length_from}
 use Rattle.spec_linux_btf.specs.Reading.{kind, extra}
 use Rattle.spec_linux_btf.specs.Places.{kind_p, vlen_p, size_p, sound_p, named_p, passes_p, place_from}
 use Rattle.spec_linux_btf.specs.Section.{types_at, type_len_of, str_len_of}
 use Rattle.spec_linux_btf.proofs.SectionFields.{from_next, area_inside}
 use Rattle.btf_open_causes.specs.records.Pass.{count_p}
 use Rattle.btf_open_causes.proofs.records.Pass.{count_in, count_end, passes_in, ends_in}
-use Rattle.btf_open_causes.proofs.header.Headers.{and_left, and_right}
 use Rattle.spec_opening.specs.Table.{types_of, record_place}
 use Rattle.spec_opening.specs.Opened.{work_of}
 use Rattle.spec_opening.specs.Causes.{opening_number}
@@ -31,11 +31,6 @@ use Rattle.spec_opening.proofs.ReadBack.{header_ok, types_ok, section_short, ord
 use Rattle.proof_demands.specs.demands.Table.{header_of, opened_table}
 use Rattle.proof_demands.proofs.demands.Described.{count_is}
 use Rattle.spec_c_dumper.specs.alignment_once.Once.{member_count, members_to}
-
-length_from : {E : Type 0} (f : ℕ → E) (k n : ℕ) → length (from f k n) ≡ n
-unfolding from
-length_from f k zero = refl
-length_from f k (suc n) = ap suc (length_from f (k + 1) n)
 
 members_small : (b : TypeTable) (s : List ℕ) (t : Record) → member_count (type_of b s t) * 12 ≤ extra (kind (kind_of t.info)) (vlen_of t.info)
 unfolding type_of member_count kind
@@ -70,13 +65,13 @@ unfolding count_p place_from
 place_end w sl zero end p h l = l
 place_end w sl (suc n) end p h l =
     ⊎_elim
-    (λ m. subst (λ (c : ℕ). place_from w p c ≤ end) (sym (count_end w 0 end p m (suc n))) l)
     (λ m.
     let both = sym (passes_in w sl end p n m) ∙ h in
-    let ends : p + size_p w p ≤ end = ends_in w sl end p (and_left (sound_p w end p) _ both) in
+    let ends : p + size_p w p ≤ end = ends_in w sl end p (first_so (sound_p w end p) _ both) in
     subst (λ (c : ℕ). place_from w p c ≤ end) (sym (count_in w 0 end p n m))
-    (subst (λ (q : ℕ). q ≤ end) (from_next w p (count_p w n end (p + size_p w p))) (place_end w sl n end (p + size_p w p) (and_right (named_p sl w p) _ (and_right (sound_p w end p) _ both)) ends)))
-    (le_or_lt end p)
+    (subst (λ (q : ℕ). q ≤ end) (from_next w p (count_p w n end (p + size_p w p))) (place_end w sl n end (p + size_p w p) (second_so (named_p sl w p) _ (second_so (sound_p w end p) _ both)) ends)))
+    (λ m. subst (λ (c : ℕ). place_from w p c ≤ end) (sym (count_end w 0 end p m (suc n))) l)
+    (cases_lt p end)
 
 module _ (p modes : ℕ) (s : List ℕ) (n : ℕ) (ok : opening_number p s n ≡ 0) where
   abbrev b : TypeTable
@@ -95,7 +90,7 @@ module _ (p modes : ℕ) (s : List ℕ) (n : ℕ) (ok : opening_number p s n ≡
   unfolding size_p kind_p vlen_p record_at
   record_size at = omega (arith, members_small b s (record_at b s at))
 
-  types_are : B.type_cnt ≡ b.types
+  pub types_are : B.type_cnt ≡ b.types
   unfolding btf_of
   types_are = refl
 

@@ -5,10 +5,11 @@ use mathlib.Core.Bool.{Bool, true, false, not}
 use mathlib.Core.List.{List, [], ◌∷◌, ◌++◌, append_assoc, append-nil}
 use mathlib.Core.Logic.{◌≢◌, ◌⊎◌, inl, inr, ⊎_elim}
 use native.Mathlib.Omega.{arith}
-use lib.ListN.{length, take, drop, length-append, length-drop}
-use lib.Seq.{length-take-le, take-append_seam}
+use lib.ListN.{length, take, drop}
+use lib.Seq.{take-append_seam}
 use lib.Dec.{leb, eqb, ltb}
 use borrow.Author.Tests.{le-leb, lt-leb, leb-true}
+use Rattle.std.proofs.lemmas.Bool.{cases_lt}
 use Rattle.std.specs.Prelude.{Ok}
 use Rattle.spec_bytes.specs.words.Words.{get_word}
 use Rattle.spec_bytes.specs.text.Text.{Text, whole, cut, bytes}
@@ -26,7 +27,8 @@ use Rattle.btf_open_names.specs.name_classes.Classes.{record_p, key_in, class_of
 use Rattle.spec_type_table.specs.Table.{from, btf_of, work_naming, type_version_in, value_version_in, enumerator_of}
 use Rattle.spec_type_table.proofs.Frame.{counted_other, table_field, table_type_version, table_value_version}
 use Rattle.spec_type_table.proofs.Laws.{place_type, place_enum}
-use Rattle.spec_bytes.proofs.words.Laws.{get_put_other, le_or_lt}
+use Rattle.spec_bytes.proofs.words.Laws.{get_put_other}
+use Rattle.spec_bytes.proofs.text.TextLaws.{place_length, head_length}
 use Rattle.c_dumper_dependency_order.specs.order_state.Work.{mark_of}
 use Rattle.spec_c_dumper.specs.needs.Lists.{Piece, defines, other, Line, cannot, Ls, put_line}
 use Rattle.spec_c_dumper.specs.needs.Session.{Known, fitting, line_of, text_of, machine_by}
@@ -99,11 +101,11 @@ module _ (b : TypeTable) (s : List ℕ) where
 
 -- words 1 and 3 of types, and all words 11 and 13
 count_form : (types c i : ℕ) → (i ≡ c * 16 + 6 → ⊥) → (types ≤ c → i ≡ types * 16 + (c - types) * 8 + 2 → ⊥) → i ≢ count_p types c
-count_form types c i p q e = step (le_or_lt types c)
+count_form types c i p q e = step (cases_lt c types)
   where
-    step : (types ≤ c) ⊎ (c < types) → ⊥
-    step (inl l) = q l (e ∙ sym (place_enum types 6 2 c l))
-    step (inr l) = p (e ∙ sym (place_type types 6 2 c l))
+    step : (c < types) ⊎ (types ≤ c) → ⊥
+    step (inl l) = p (e ∙ sym (place_type types 6 2 c l))
+    step (inr l) = q l (e ∙ sym (place_enum types 6 2 c l))
 
 free_low : (types x f : ℕ) → x < types → 1 ≤ f → f < 4 → f ≢ 2 → Free types (x * 16 + f)
 free_low types x f l m k n = record { no_count = λ c. count_form types c (x * 16 + f) (λ q. omega arith) (λ g q. omega arith); no_version = λ id q. omega arith; no_visits = λ q. n (omega arith); no_align = λ id q. omega arith }
@@ -117,17 +119,11 @@ free_emit types k = record { no_count = λ c. count_form types c (k * 16 + 13) (
 -- ---- the text
 -- room for n bytes more: f before the text, a in it, and c in all
 room_left : (f a n c : ℕ) → a ≤ c → leb (f + a + n) (f + c) ≡ leb n (c - a)
-room_left f a n c k = ⊎_elim (λ l. le-leb (f + a + n) (f + c) (omega arith) ∙ sym (le-leb n (c - a) l)) (λ l. lt-leb (f + a + n) (f + c) (omega arith) ∙ sym (lt-leb n (c - a) l)) (le_or_lt n (c - a))
+room_left f a n c k = ⊎_elim (λ l. lt-leb (f + a + n) (f + c) (omega arith) ∙ sym (lt-leb n (c - a) l)) (λ l. le-leb (f + a + n) (f + c) (omega arith) ∙ sym (le-leb n (c - a) l)) (cases_lt (c - a) n)
 
 module _ (text : List ℕ) (at : ℕ) (a : List ℕ) (l : at + length a ≤ length text) where
-  head_length : length (take at text ++ a) ≡ at + length a
-  head_length = let k : at ≤ length text = omega arith in length-append (take at text) a ∙ ap (λ (n : ℕ). n + length a) (length-take-le at text k)
-
-  whole_length : length (place text at a) ≡ length text
-  whole_length = length-append (take at text ++ a) (drop (at + length a) text) ∙ omega (arith, head_length, length-drop (at + length a) text)
-
   head_is : take (at + length a) (place text at a) ≡ take at text ++ a
-  head_is = ap (λ (n : ℕ). take n (place text at a)) (sym head_length) ∙ take-append_seam (take at text ++ a) (drop (at + length a) text)
+  head_is = ap (λ (n : ℕ). take n (place text at a)) (sym (head_length text at a l)) ∙ take-append_seam (take at text ++ a) (drop (at + length a) text)
 
 text_more : (mk : List ℕ → Piece) → ((a : List ℕ) → text_of (mk a ∷ []) ≡ a) → (ps : List Piece) (a : List ℕ) → text_of (ps ++ (mk a ∷ [])) ≡ text_of ps ++ a
 unfolding text_of
@@ -182,9 +178,9 @@ module _ (b : TypeTable) (e : ℕ) (s w : List ℕ) (I : Indexed b e s w) (mk : 
     where
       fits : (x : Text) → at + length (bytes x) ≤ length text → BothLine b e s w front t.room len (with_names v' (written text at x)) (put_line mk t (fitting (length front + at) u' x))
       fits (whole a) l = lines_on (place text at a) (at + length a) v' _ (bears_names v' u' (length front + at + length a) (t.pieces ++ (mk a ∷ [])) r tab k mem) (record {
-        room = ap (λ (n : ℕ). length front + n) (whole_length text at a l) ∙ sh.room;
+        room = ap (λ (n : ℕ). length front + n) (place_length text at a l) ∙ sh.room;
         place = omega arith;
-        inside = omega (arith, l, whole_length text at a l);
+        inside = omega (arith, l, place_length text at a l);
         so_far = ap (λ (p : List ℕ). front ++ p) (head_is text at a l) ∙ sym (append_assoc front (take at text) a) ∙ ap (λ (p : List ℕ). p ++ a) sh.so_far ∙ sym (text_more mk mk_text t.pieces a);
       }) refl
       fits (cut a c) l = lines_stop c

@@ -29,14 +29,9 @@ use Rattle.spec_c_dumper.proofs.alignment_once.Counted.{paid_none}
 use Rattle.btf_layout.specs.remembered.Words.{seen_word, decoded, work_keep}
 use Rattle.proof_demands.specs.alignment_memory.Work.{Minds, Sane}
 use Rattle.proof_demands.specs.demands.Table.{header_of, opened_table}
-use Rattle.proof_demands.proofs.demands.Described.{count_is}
+use Rattle.proof_demands.proofs.demands.Described.{count_is, void_type}
 use Rattle.proof_demands.proofs.demands.Sound.{opened_wf}
-use Rattle.proof_demands.proofs.demands.Few.{few}
-
--- past the count there is no type
-void_type : (b : TypeTable) (s : List ℕ) → type_of b s void_record ≡ Void
-unfolding type_of void_record
-void_type b s = refl
+use Rattle.proof_demands.proofs.demands.Few.{few, types_are}
 
 pub ends : (b : TypeTable) (s w : List ℕ) (id : ℕ) → (btf_of b s w).type_cnt ≤ id → (btf_of b s w).type_by_id id ≡ Void
 unfolding btf_of
@@ -72,16 +67,12 @@ module _ (p modes : ℕ) (s : List ℕ) (n : ℕ) (ok : opening_number p s n ≡
   pub no_visits : 0 < b.types → get_field w 0 2 ≡ 0
   no_visits l = zero_word 0 2 l (omega arith) (λ q. omega arith) (λ q. omega arith) (λ q. omega arith) (λ q. omega arith) (λ q. omega arith) (λ q. omega arith) (λ q. omega arith) (λ q. omega arith)
 
-  types_are : B.type_cnt ≡ b.types
-  unfolding btf_of
-  types_are = refl
-
   pub none : (id : ℕ) → (work_keep B.type_cnt B).recall w id ≡ unknown
   unfolding work_keep seen_word decoded
   none id = by (ltb id B.type_cnt) refl
     where
       by : (t : Bool) → ltb id B.type_cnt ≡ t → decoded (elim t as (λ (x : Bool). ℕ) [ true ↦ get_field w id 15 | false ↦ 0 ]) ≡ unknown
-      by true q = ap decoded (no_alignment id (subst (λ (k : ℕ). id < k) types_are (ltb-true id B.type_cnt q)))
+      by true q = ap decoded (no_alignment id (subst (λ (k : ℕ). id < k) (types_are p modes s n ok) (ltb-true id B.type_cnt q)))
       by false q = refl
 
   pointers : B.ptr_sz ≤ 15
@@ -96,7 +87,7 @@ module _ (p modes : ℕ) (s : List ℕ) (n : ℕ) (ok : opening_number p s n ≡
   roomy = omega (arith, count_is p modes s n ok, work_length p modes s n ok, work_long p modes s n ok)
 
   some : 1 ≤ b.types
-  some = subst (λ (k : ℕ). 1 ≤ k) types_are (omega (arith, count_is p modes s n ok, some_type s))
+  some = subst (λ (k : ℕ). 1 ≤ k) (types_are p modes s n ok) (omega (arith, count_is p modes s n ok, some_type s))
 
   -- what is asked of the table
   pub opened_sane : Sane b B

@@ -123,9 +123,6 @@ module _ (p modes : ℕ) (s : List ℕ) (n : ℕ) (ok : opening_number p s n ≡
   abbrev u : List ℕ
   u = classed p modes s n ok
 
-  some : 1 ≤ b.types
-  some = omega (arith, types_are p modes s n ok, some_type s)
-
   listed_place : (f g h : ℕ) → f < 16 → g < 8 → f ≢ 7 → f ≢ 8 → f ≢ 14 → g ≢ 3 → g ≢ 4 → g ≢ 6 → get_word w (place_of b.types f g h) ≡ get_word u (place_of b.types f g h)
   listed_place f g h a c n7 n8 n14 n3 n4 n6 = else_listed p modes s n ok (place_of b.types f g h) (place_unlisted b.types (b.types + enumerators_of s) f g h a c n7 n8 n14 n3 n4 n6)
 

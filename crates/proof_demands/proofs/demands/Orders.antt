@@ -10,14 +10,13 @@ use lib.ListN.{length, get_or, drop, length-append}
 use lib.Seq.{drop-drop, drop-append_seam}
 use lib.Dec.{ltb, leb, eqb}
 use borrow.Author.Tests.{lt-ltb}
+use Rattle.std.proofs.lemmas.Bool.{cases_lt}
 use Rattle.spec_bytes.specs.words.Words.{word_at, word_at_big, word_in, pick}
-use Rattle.spec_bytes.proofs.words.Laws.{le_or_lt}
-use Rattle.spec_linux_btf.specs.Documentation.{Member, member, Enumerator, enumerator, Param, param, Enumerator64, enumerator64, int, ptr, array, struct, union, enum, fwd, typedef, volatile, const, restrict, func, func_proto, var, datasec, float, decl_tag, type_tag, enum64, Described, described, encode, encode_all, Every, Allowed, Header, header, encode_header, encode_section}
+use Rattle.spec_linux_btf.specs.Documentation.{Member, member, Enumerator, enumerator, Param, param, Enumerator64, enumerator64, int, ptr, array, struct, union, enum, fwd, typedef, volatile, const, restrict, func, func_proto, var, datasec, float, decl_tag, type_tag, enum64, Described, described, encode_all, Every, Allowed, Header, header, encode_header, encode_section}
 use Rattle.spec_linux_btf.specs.Reading.{Bytes, decode_all}
 use Rattle.spec_linux_btf.specs.Section.{is_big_endian, little_endian, word_of, hdr_len_of, type_len_of, str_off_of, str_len_of, types_at, strings_at, read_header, type_area, header_sound}
-use Rattle.spec_linux_btf.proofs.Types.{body_long}
 use Rattle.spec_linux_btf.proofs.Area.{allowed_fits}
-use Rattle.spec_linux_btf.proofs.Section.{header_read, section_order, section_read}
+use Rattle.spec_linux_btf.proofs.Section.{header_read, section_order, section_read, past_header, header_length}
 use Rattle.spec_linux_btf.proofs.Written.{section_bytes}
 use Rattle.spec_c_dumper.specs.rules.Types.{Int, Composite, Enum, Enum64, Fwd, Typedef, Func, Var, Datasec, FuncProto, Float, DeclTag, TypeTag}
 use Rattle.spec_type_table.specs.declared.types.TypeTable.{TypeTable}
@@ -112,29 +111,6 @@ module _ (b c : TypeTable) (s u : List ℕ) (same : (off : ℕ) → str_at b s o
 ---------------------------------------------------------------------------------------------------------------------------------------
 -- A section written in one order
 
-encode_long : (big : Bool) (t : Described) → length (encode big t) ≡ length (encode false t)
-unfolding encode
-encode_long big (described n f z b) =
-    let e = body_long big f b in
-    let g = body_long false f b in
-    omega arith
-
-all_long : (big : Bool) (ts : List Described) → length (encode_all big ts) ≡ length (encode_all false ts)
-unfolding encode_all
-all_long big [] = refl
-all_long big (t ∷ ts) =
-    length-append (encode big t) (encode_all big ts)
-    ∙ (λ i. encode_long big t i + all_long big ts i)
-    ∙ sym (length-append (encode false t) (encode_all false ts))
-
-past_header : (big : Bool) (h : Header) (x : List ℕ) → drop 24 (encode_header big h ++ x) ≡ x
-unfolding encode_header
-past_header big (header v f h o l p q) x = refl
-
-header_long : (big : Bool) (h : Header) → length (encode_header big h) ≡ 24
-unfolding encode_header
-header_long big (header v f h o l p q) = refl
-
 abbrev length_in : Header → ℕ
 length_in (header v f h o l p q) = h
 
@@ -158,7 +134,7 @@ module _ (pointer modes n flags : ℕ) (ts : List Described) (strings : List ℕ
 
     whole : length s ≡ 24 + (area_length + length strings)
     unfolding encode_section
-    whole = length-append (encode_header big head) (encode_all big ts ++ strings) ∙ rw (header_long big head, length-append (encode_all big ts) strings)
+    whole = length-append (encode_header big head) (encode_all big ts ++ strings) ∙ rw (header_length big head, length-append (encode_all big ts) strings)
 
     area_short : area_length < 4294967296
     area_short = omega (arith, whole, section_short pointer modes s n ok)
@@ -227,7 +203,7 @@ module _ (pointer modes n flags : ℕ) (ts : List Described) (strings : List ℕ
 
   pub types_same : (id : ℕ) → (opened_table pointer modes u n).type_by_id id ≡ (opened_table pointer modes v n).type_by_id id
   types_same zero = type_zero pointer modes u n ok ∙ sym (type_zero pointer modes v n ok')
-  types_same (suc id) = ⊎_elim past inside (le_or_lt (types_of u) (suc id))
+  types_same (suc id) = ⊎_elim inside past (cases_lt (suc id) (types_of u))
     where
       past : types_of u ≤ suc id → (opened_table pointer modes u n).type_by_id (suc id) ≡ (opened_table pointer modes v n).type_by_id (suc id)
       past l = type_past pointer modes u n ok (suc id) l ∙ sym (type_past pointer modes v n ok' (suc id) (omega (arith, count_same)))

@@ -1,15 +1,14 @@
 -- One request in lent bytes and over plain lists: the same refusal, or states that go on alike. Assumes nothing.
 use Prim.Native.Nat.{ℕ, zero, suc, ◌+◌, ◌*◌, ◌<◌, ◌≤◌}
 use mathlib.Core.Path.{◌≡◌, refl, ap, ◌∙◌, sym, subst}
-use mathlib.Core.Bool.{Bool, true, false}
+use mathlib.Core.Bool.{Bool, false}
 use mathlib.Core.List.Memᴰ
 use mathlib.Core.List.{List}
 use mathlib.Core.Logic.{◌≢◌}
 use native.Mathlib.Omega.{arith}
 use lib.ListN.{length}
-use lib.Dec.{ltb}
-use Rattle.spec_bytes.specs.words.Words.{get_word, one_more, pick}
-use Rattle.spec_bytes.proofs.words.Laws.{get_put_other, put_length}
+use Rattle.spec_bytes.specs.words.Words.{get_word}
+use Rattle.spec_bytes.proofs.words.Laws.{get_put_other, more_most}
 use Rattle.spec_c_dumper.specs.rules.Order.{Table, Res}
 use Rattle.spec_c_dumper.specs.rules.Machine.{Out, wrote, Machine, MLawful, OrderKeeps, obind, eeach, emit, Sess, emitted, ordered, ordering, shut}
 use Rattle.spec_c_dumper.specs.rules.Types.{Btf as Rules, table_of}
@@ -22,6 +21,7 @@ use Rattle.spec_type_table.specs.Table.{btf_of, work_naming}
 use Rattle.c_dumper_dependency_order.specs.order_state.Work.{work_store}
 use Rattle.c_dumper_dependency_order.proofs.order_state.Frame.{table_list}
 use Rattle.spec_session.specs.emission.Sheet.{Sheet, sheet_store, emptied, sheet_of, line_in, work_machine}
+use Rattle.spec_session.proofs.emission.Lawful.{emptied_length}
 use Rattle.spec_c_dumper.specs.rules.Request.{listed_out, dumped}
 use Rattle.spec_c_dumper.specs.needs.Needs.{WF}
 use Rattle.spec_c_dumper.specs.needs.Lists.{Ls, list_store}
@@ -38,12 +38,6 @@ use Rattle.proof_demands.proofs.demands.Start.{start_step}
 use Rattle.proof_demands.proofs.demands.Lines.{body_line, leaf_line, forward_line, alias_line}
 use Rattle.spec_c_dumper.proofs.needs.Emission.{AlikeSteps, eeach_alike, emit_alike}
 
--- the order list, emptied
-emptied_long : (k : ℕ) (v : List ℕ) → length (emptied k v) ≡ length v
-unfolding emptied
-emptied_long zero v = refl
-emptied_long (suc k) v = put_length (emptied k v) (k * 16 + 11) 0 ∙ emptied_long k v
-
 emptied_table : (b : TypeTable) (s : List ℕ) (k : ℕ) (v : List ℕ) → btf_of b s (emptied k v) ≡ btf_of b s v
 unfolding emptied
 emptied_table b s zero v = refl
@@ -53,14 +47,6 @@ emptied_word : (k : ℕ) (v : List ℕ) (i : ℕ) → ((j : ℕ) → j < k → i
 unfolding emptied
 emptied_word zero v i n = refl
 emptied_word (suc k) v i n = get_put_other (emptied k v) (k * 16 + 11) i 0 (n k (omega arith)) ∙ emptied_word k v i (λ j l. n j (omega arith))
-
-more_most : (n : ℕ) → one_more n ≤ n + 1
-unfolding one_more
-more_most n = go (ltb n 4294967295)
-  where
-    go : (t : Bool) → pick t (n + 1) n ≤ n + 1
-    go true = omega arith
-    go false = omega arith
 
 -- w is the work after opening; the text so far is `front`, and the room of the request is `room`
 module _ (b : TypeTable) (e : ℕ) (s w : List ℕ) (I : Indexed b e s w) (Z : Sane b (btf_of b s w)) (N : Naming Names) (R : RelNaming (Alike b e s w) (NameFits b s w) (FitsValue b s w) (work_naming b) N)
@@ -175,7 +161,7 @@ module _ (b : TypeTable) (e : ℕ) (s w : List ℕ) (I : Indexed b e s w) (Z : S
     unfolding obind emitted shut work_machine
     emitted_alike (both_wrote m t q) =
         both_served (record { work = emptied m.len m.work; text = m.text; at = m.at; len = 0 }) t
-        (start_step b e s w m.work (emptied m.len m.work) (emptied_long m.len m.work) (emptied_table b s m.len m.work) (λ i z. emptied_word m.len m.work i (λ j l. z j (omega (arith, l, q.short)))) B 0 m.len t q.bears)
+        (start_step b e s w m.work (emptied m.len m.work) (emptied_length m.len m.work) (emptied_table b s m.len m.work) (λ i z. emptied_word m.len m.work i (λ j l. z j (omega (arith, l, q.short)))) B 0 m.len t q.bears)
         q.shows q.same_room
     emitted_alike (both_stuck c) = both_refused c
 

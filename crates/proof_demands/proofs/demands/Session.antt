@@ -12,8 +12,9 @@ use lib.Seq.{length-take-le, take_at, take-take, take-append-le, take-append-add
 use lib.Dec.{eqb, ltb}
 use borrow.Author.Tests.{le-leb, lt-leb, eq-eqb, ne_eqb, lt-ltb, le-ltb}
 use borrow.Rule.Slice.PartMut.{mid_len}
+use Rattle.std.proofs.lemmas.Bool.{cases_lt}
 use Rattle.spec_bytes.specs.text.Placed.{place}
-use Rattle.spec_bytes.proofs.words.Laws.{le_or_lt}
+use Rattle.spec_bytes.proofs.text.TextLaws.{place_length}
 use Rattle.spec_c_dumper.specs.rules.Order.{Table}
 use Rattle.spec_c_dumper.specs.rules.Machine.{Out, stuck, Machine, Sess, Answer, ordered, ordering, gate, single, onward, from, every, Req, one, all, serve, run}
 use Rattle.spec_c_dumper.specs.rules.Types.{Btf as Rules, table_of}
@@ -34,7 +35,7 @@ use Rattle.spec_session.specs.session.Turns.{Call, is_current, Reach, reached, r
 use Rattle.spec_session.specs.calls.Calls.{opened_call, open_call, limit_of, came_to, lent_to, requested, onward as go_on, requested_from, type_call, types_call}
 use Rattle.spec_session.specs.calls.Lists.{then_next as counted_call, list_from, list_call}
 use Rattle.spec_session.proofs.calls.Lists.{counted_goes, counted_stops, type_single, list_counts}
-use Rattle.spec_session.proofs.calls.Fair.{placed, fair_request}
+use Rattle.spec_session.proofs.calls.Fair.{fair_request}
 use Rattle.spec_session.proofs.calls.Laws.{limit_short, limit_long, limit_between, stuck_listed, opens_sound}
 use Rattle.spec_session.proofs.calls.Claims.{number_is, value_is, type_settles, types_settle, type_not_below, type_not_current, types_not_current, closed_stays, type_current}
 use Rattle.spec_c_dumper.specs.needs.Lists.{Ls, afresh}
@@ -52,11 +53,11 @@ use Rattle.proof_demands.proofs.demands.Request.{request_alike}
 
 smaller_first : (a c : ℕ) → smaller a c ≤ a
 unfolding smaller
-smaller_first a c = ⊎_elim (λ l. rw (le-leb a c l, smaller) (le_refl a)) (λ l. rw (lt-leb a c l, smaller) (omega arith)) (le_or_lt a c)
+smaller_first a c = ⊎_elim (λ l. rw (lt-leb a c l, smaller) (omega arith)) (λ l. rw (le-leb a c l, smaller) (le_refl a)) (cases_lt c a)
 
 smaller_second : (a c : ℕ) → smaller a c ≤ c
 unfolding smaller
-smaller_second a c = ⊎_elim (λ l. rw (le-leb a c l, smaller) l) (λ l. rw (lt-leb a c l, smaller) (le_refl c)) (le_or_lt a c)
+smaller_second a c = ⊎_elim (λ l. rw (lt-leb a c l, smaller) (le_refl c)) (λ l. rw (le-leb a c l, smaller) l) (cases_lt c a)
 
 smaller_is : (a c : ℕ) → a ≤ c → smaller a c ≡ a
 unfolding smaller
@@ -68,9 +69,9 @@ smaller_not a c l = rw (lt-leb a c l, smaller)
 
 limit_is : (k len : ℕ) → len ≤ 1073741824 → limit_of k len ≡ smaller k 1073741824
 limit_is k len h = ⊎_elim
-    (λ l. limit_short k len l ∙ sym (smaller_is k 1073741824 l))
     (λ l. limit_long k len l h ∙ sym (smaller_not k 1073741824 l))
-    (le_or_lt k 1073741824)
+    (λ l. limit_short k len l ∙ sym (smaller_is k 1073741824 l))
+    (cases_lt 1073741824 k)
 
 -- a text of len bytes, and then zeros
 module _ (len room : ℕ) (t tx : List ℕ) (is : take len t ≡ tx) (short : len ≤ length t) where
@@ -90,13 +91,13 @@ module _ (len room : ℕ) (t tx : List ℕ) (is : take len t ≡ tx) (short : le
   zeros_fit = omega (arith, length-append (take len t) (replicate (room - len) 0), length-take-le len t short)
 
 -- the modes that the record keeps say what those at opening said
-union_kept : (m : ℕ) → m % 16 % 2 ≡ m % 2
+pub union_kept : (m : ℕ) → m % 16 % 2 ≡ m % 2
 union_kept m = omega arith
 
-arrays_kept : (m : ℕ) → m % 16 / 2 % 2 ≡ m / 2 % 2
+pub arrays_kept : (m : ℕ) → m % 16 / 2 % 2 ≡ m / 2 % 2
 arrays_kept m = omega arith
 
-placing_kept : (m : ℕ) → m % 16 / 4 % 2 ≡ m / 4 % 2
+pub placing_kept : (m : ℕ) → m % 16 / 4 % 2 ≡ m / 4 % 2
 placing_kept m = omega arith
 
 module _ (p modes : ℕ) (s : List ℕ) (n : ℕ) (ok : opening_number p s n ≡ 0) where
@@ -173,7 +174,7 @@ module _ (p modes : ℕ) (s : List ℕ) (n : ℕ) (ok : opening_number p s n ≡
         let total : len + length m.text ≡ smaller room 1073741824 = omega (arith, front_long, sh.room ∙ ap (λ (k : ℕ). smaller k 1073741824) r) in
         let fit : len + length m.text ≤ length t = omega (arith, smaller_first room 1073741824, g.long) in
         let head : length (take len t ++ m.text) ≡ len + length m.text = length-append (take len t) m.text ∙ ap (λ (k : ℕ). k + length m.text) front_long in
-        let size : length (place t len m.text) ≡ length t = placed t len m.text fit in
+        let size : length (place t len m.text) ≡ length t = place_length t len m.text fit in
         let ins : m.at ≤ length m.text = sh.inside in
         record {
           running = refl;
@@ -292,7 +293,7 @@ module _ (p modes : ℕ) (s : List ℕ) (n : ℕ) (ok : opening_number p s n ≡
       tells = told room (suc c) len (with_text S false len u) (replicate (length work) 0) t L d.its_text d.fits;
     }
 
-  counted : T.count ≡ b.types
+  pub counted : T.count ≡ b.types
   unfolding btf_of
   counted = refl
 
@@ -374,7 +375,7 @@ module _ (p modes : ℕ) (s : List ℕ) (n : ℕ) (ok : opening_number p s n ≡
     type_keeps x = by L.is_open refl
       where
         by : (o : Bool) → L.is_open ≡ o → KeptBy (type_call S s work text x) (single X T (length text) L x)
-        by true o = ⊎_elim (λ l. type_past x o l) (λ l. type_open x o l) (le_or_lt T.count x)
+        by true o = ⊎_elim (λ l. type_open x o l) (λ l. type_past x o l) (cases_lt x T.count)
         by false o = type_shut x o
 
     types_open : L.is_open ≡ true → KeptBy (types_call S s work text) (from X T (length text) (T.count - 1) 1 L)
@@ -423,7 +424,7 @@ module _ (p modes : ℕ) (s : List ℕ) (n : ℕ) (ok : opening_number p s n ≡
 
     pub not_11 : L.is_open ≡ true → number_of c₁.answer ≡ 11 → ⊥
     unfolding number_of
-    not_11 o e = ⊎_elim past below (le_or_lt S.types x)
+    not_11 o e = ⊎_elim below past (cases_lt x S.types)
       where
         past : S.types ≤ x → ⊥
         past l = let z : number_of c₁.answer ≡ 10 = ap (λ (c : Call). number_of c.answer) (type_not_below S s work text x (current S work text₀ L h text f same o) l) in omega arith

@@ -9,7 +9,7 @@ use mathlib.Core.Logic.{◌⊎◌, inl, inr}
 use native.Mathlib.Omega.{arith}
 use native.Mathlib.Nat.{zero-add}
 use native.Mathlib.Decide.{ℕ_discrete}
-use Rattle.spec_bytes.proofs.words.Laws.{le_or_lt}
+use Rattle.std.proofs.lemmas.Bool.{cases_lt}
 use Rattle.spec_linux_btf.specs.Places.{kind_p}
 use Rattle.spec_c_dumper.specs.rules.Types.{BtfType, node_of, member_types, param_types, table_of}
 use Rattle.spec_c_dumper.specs.rules.Order.{Node, ignored, plain, listed, through, ptr, tdef, proto, comp, is_comp, Table}
@@ -196,12 +196,12 @@ module _ (p modes : ℕ) (s : List ℕ) (n : ℕ) (ok : opening_number p s n ≡
 
   -- a type that follows ids, or is a prototype or a composite, is in the table
   in_table : (x : ℕ) → (node_at x ≡ plain → ⊥) → (1 ≤ x) × (x < types_of s)
-  in_table x m = go (ℕ_discrete x 0) (le_or_lt (types_of s) x)
+  in_table x m = go (ℕ_discrete x 0) (cases_lt x (types_of s))
     where
-      go : Dec (x ≡ 0) → (types_of s ≤ x) ⊎ (x < types_of s) → (1 ≤ x) × (x < types_of s)
+      go : Dec (x ≡ 0) → (x < types_of s) ⊎ (types_of s ≤ x) → (1 ≤ x) × (x < types_of s)
       go (yes z) d = absurd (m (ap node_at z ∙ ap node_of (type_zero p modes s n ok)))
-      go (no z) (inl l) = absurd (m (ap node_of (type_past p modes s n ok x l)))
-      go (no z) (inr l) = (omega arith, l)
+      go (no z) (inl l) = (omega arith, l)
+      go (no z) (inr l) = absurd (m (ap node_of (type_past p modes s n ok x l)))
 
   with_kid : (x y : ℕ) → Memᴰ y (kids (node_at x)) → (1 ≤ x) × (x < types_of s)
   with_kid x y h = in_table x (λ e. Memᴰ.not-nil (subst (λ (nd : Node). Memᴰ y (kids nd)) e h))

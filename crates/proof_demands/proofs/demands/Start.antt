@@ -7,8 +7,8 @@ use mathlib.Core.Logic.{◌≢◌, ⊎_elim}
 use native.Mathlib.Omega.{arith}
 use lib.ListN.{length}
 use lib.Dec.{eqb}
+use Rattle.std.proofs.lemmas.Bool.{cases_lt}
 use Rattle.spec_bytes.specs.words.Words.{get_word}
-use Rattle.spec_bytes.proofs.words.Laws.{le_or_lt}
 use Rattle.spec_c_dumper.specs.rules.Names.{Names}
 use Rattle.spec_c_dumper.specs.rules.Types.{Btf as Rules}
 use Rattle.spec_type_table.specs.declared.types.TypeTable.{TypeTable}
@@ -27,9 +27,9 @@ use Rattle.proof_demands.specs.demands.Sheet.{Bears}
 -- no word of a holder that is no word 11 is word 11 of a type
 no_list : (types f g h : ℕ) → f < 16 → f ≢ 11 → (j : ℕ) → j < types → place_of types f g h ≢ j * 16 + 11
 no_list types f g h a n j m e = ⊎_elim
-    (λ l. let q : types * 16 + (h - types) * 8 + g ≡ j * 16 + 11 = place_enum types f g h l ∙ e in omega arith)
     (λ l. let q : h * 16 + f ≡ j * 16 + 11 = place_type types f g h l ∙ e in n (omega arith))
-    (le_or_lt types h)
+    (λ l. let q : types * 16 + (h - types) * 8 + g ≡ j * 16 + 11 = place_enum types f g h l ∙ e in omega arith)
+    (cases_lt h types)
 
 module _ (b : TypeTable) (e : ℕ) (s w v v' : List ℕ) (long : length v' ≡ length v) (tab : btf_of b s v' ≡ btf_of b s v)
     (k : (i : ℕ) → ((j : ℕ) → j < b.types → i ≢ j * 16 + 11) → get_word v' i ≡ get_word v i) where

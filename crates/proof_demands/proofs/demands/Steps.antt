@@ -11,7 +11,7 @@ use lib.Seq.{get_or-set_same, get_or-set_other}
 use lib.Dec.{eqb}
 use Rattle.spec_bytes.specs.words.Words.{get_word, one_more}
 use Rattle.spec_bytes.proofs.words.Laws.{get_put_same, get_put_other, put_length}
-use Rattle.spec_c_dumper.specs.rules.Order.{Mark, new, busy, done}
+use Rattle.spec_c_dumper.specs.rules.Order.{Mark, new}
 use Rattle.spec_c_dumper.specs.rules.Names.{Names}
 use Rattle.spec_c_dumper.specs.rules.Types.{Btf as Rules}
 use Rattle.spec_type_table.specs.declared.types.TypeTable.{TypeTable}
@@ -23,7 +23,7 @@ use Rattle.spec_type_table.proofs.Frame.{field_other, table_field}
 use Rattle.btf_open_names.specs.name_classes.Classes.{record_p, key_in, class_of}
 use Rattle.btf_open_names.proofs.name_classes.Keys.{place_apart}
 use Rattle.c_dumper_dependency_order.specs.order_state.Work.{mark_of, code, work_store}
-use Rattle.c_dumper_dependency_order.proofs.order_state.Lawful.{work_lawful}
+use Rattle.c_dumper_dependency_order.proofs.order_state.Lawful.{work_lawful, mark_code}
 use Rattle.spec_c_dumper.specs.needs.Lists.{Ls, list_store}
 use Rattle.spec_c_dumper.specs.needs.Session.{Known, machine}
 use Rattle.proof_demands.specs.name_counts.Indexed.{Indexed, CountsKept}
@@ -31,12 +31,6 @@ use Rattle.proof_demands.specs.name_counts.Alike.{Alike}
 use Rattle.proof_demands.proofs.alignment_memory.Work.{memory_put}
 use Rattle.proof_demands.proofs.alignment_memory.Lines.{minds_same}
 use Rattle.proof_demands.specs.demands.Sheet.{Bears}
-
-mark_code : (k : Mark) → mark_of (code k) ≡ k
-unfolding mark_of
-mark_code new = refl
-mark_code busy = refl
-mark_code done = refl
 
 module _ (b : TypeTable) (e : ℕ) (s w : List ℕ) (I : Indexed b e s w) where
   -- a word of a type that names do not use

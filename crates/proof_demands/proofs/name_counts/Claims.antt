@@ -10,7 +10,7 @@ use native.Mathlib.Numerals.{add-one}
 use lib.ListN.{length, get_or, set}
 use lib.Seq.{get_or-set_same, get_or-set_other}
 use lib.Dec.{eqb, ltb}
-use borrow.Author.Tests.{ne_eqb, lt-ltb, le-ltb}
+use borrow.Author.Tests.{ne_eqb, lt-ltb}
 use Rattle.spec_bytes.specs.words.Words.{one_more, pick}
 use Rattle.spec_bytes.specs.text.Text.{ascii}
 use Rattle.spec_bytes.specs.text.Decimal.{decimal}
@@ -27,11 +27,12 @@ use Rattle.btf_open_names.specs.name_classes.Classes.{key_in, class_of}
 use Rattle.spec_c_dumper.specs.needs.Needs.{WF}
 use Rattle.spec_c_dumper.specs.needs.Session.{dumped, opened_by}
 use Rattle.spec_c_dumper.proofs.needs.AnyNames.{dumps_alike}
+use Rattle.spec_c_dumper.proofs.rules.Names.{holds_same, holds_equal, count_here, spelled_later}
 use Rattle.proof_demands.specs.name_counts.Passed.{Lists, next_number, type_passed, value_passed, passed, none}
 use Rattle.proof_demands.specs.name_counts.Indexed.{NameFits, FitsValue, Holds, Indexed, Listed}
 use Rattle.proof_demands.specs.name_counts.Alike.{Alike, Fresh, no_names}
 use Rattle.proof_demands.specs.name_counts.Printed.{ledger_of, times}
-use Rattle.proof_demands.proofs.name_counts.Holders.{holds_same, holds_equal, count_here, count_there}
+use Rattle.proof_demands.proofs.name_counts.Holders.{count_there}
 use Rattle.proof_demands.proofs.name_counts.Keys.{one_class, class_space, class_name}
 use Rattle.proof_demands.proofs.name_counts.Related.{next_alike, work_names, alike_first}
 use Rattle.proof_demands.proofs.name_counts.Table.{fits_table}
@@ -107,8 +108,7 @@ bare name = refl
 
 -- "the n-th, from n = 2, adds three underscores and n"
 pub numbered : (name : Name) (n : ℕ) → 2 ≤ n → spelled name n ≡ name ++ ascii "___" ++ decimal n
-unfolding spelled
-numbered name n l = rw (le-ltb n 2 l, spelled)
+numbered = spelled_later
 
 -- and after a list of names the next holder of a name is the n-th if n - 1 of the list have its space and its bytes
 module _ (space : Space) (name : Name) where

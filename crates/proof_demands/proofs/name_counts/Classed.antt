@@ -5,8 +5,8 @@ use mathlib.Core.List.{List}
 use mathlib.Core.Logic.{⊎_elim, ◌≢◌}
 use native.Mathlib.Omega.{arith}
 use native.Mathlib.Decide.{ℕ_discrete}
+use Rattle.std.proofs.lemmas.Bool.{cases_lt}
 use Rattle.spec_bytes.specs.words.Words.{get_word}
-use Rattle.spec_bytes.proofs.words.Laws.{le_or_lt}
 use Rattle.spec_type_table.specs.declared.types.TypeTable.{TypeTable}
 use Rattle.spec_type_table.specs.declared.types.BtfType.{BtfType as Record}
 use Rattle.spec_type_table.specs.Cells.{get_field, count_p}
@@ -45,9 +45,9 @@ module _ (b : TypeTable) (e : ℕ) (s w : List ℕ) where
       go : Dec (id ≡ 0) → record_by_id b s (table_classed b e s w) id ≡ record_by_id b s w id
       go (yes z) = sym (void_zero b s (table_classed b e s w) id void_record z refl) ∙ void_zero b s w id void_record z refl
       go (no n) = ⊎_elim
-          (λ l. sym (void_past b s (table_classed b e s w) id void_record n l refl) ∙ void_past b s w id void_record n l refl)
           (λ l. sym (record_there b s (table_classed b e s w) id n l) ∙ ap (record_at b s) (place_stays id) ∙ record_there b s w id n l)
-          (le_or_lt b.types id)
+          (λ l. sym (void_past b s (table_classed b e s w) id void_record n l refl) ∙ void_past b s w id void_record n l refl)
+          (cases_lt id b.types)
 
   pub keys_stay : key_in b s (table_classed b e s w) ≡ key_in b s w
   unfolding key_in

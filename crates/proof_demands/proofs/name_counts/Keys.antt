@@ -1,13 +1,11 @@
 -- Holders: two have the same class if and only if they have the same space and the same name; types and values are holders. Assumes nothing.
 use Prim.Native.Nat.{ℕ, ◌+◌, ◌<◌}
 use mathlib.Core.Path.{◌≡◌, refl, ap, ap₂, ◌∙◌, sym}
-use mathlib.Core.List.{List, [], ◌∷◌}
+use mathlib.Core.List.{List, ◌∷◌, head-eq_of_cons-eq, tail-eq_of_cons-eq}
 use mathlib.Core.Logic.{⊎_elim, ◌≢◌}
 use native.Mathlib.Omega.{arith}
-use lib.ListN.{get_or}
-use borrow.Author.Tests.{ne_eqb}
+use Rattle.std.proofs.lemmas.Bool.{cases_lt}
 use Rattle.spec_bytes.specs.words.Words.{get_word}
-use Rattle.spec_bytes.proofs.words.Laws.{le_or_lt}
 use Rattle.spec_c_dumper.specs.rules.Types.{Name}
 use Rattle.spec_c_dumper.specs.rules.Names.{Space, tag_space, ident_space}
 use Rattle.spec_type_table.specs.declared.types.TypeTable.{TypeTable}
@@ -16,9 +14,9 @@ use Rattle.spec_type_table.specs.Names.{name_at, str_at}
 use Rattle.spec_type_table.specs.Records.{section_word, kind_of, record_at, void_record, record_by_id}
 use Rattle.spec_type_table.specs.Table.{enumerator_of}
 use Rattle.spec_type_table.proofs.Laws.{place_type, by_id, void_zero, void_past}
-use Rattle.btf_open_names.specs.name_classes.Classes.{record_p, space_of, is_id_among, space_at, name_of, key_of, key_in, class_of}
+use Rattle.btf_open_names.specs.name_classes.Classes.{record_p, space_of, is_id_among, space_at, name_of, key_in, class_of}
 use Rattle.btf_open_names.proofs.name_classes.Laws.{class_key, class_same}
-use Rattle.btf_open_names.proofs.name_classes.Keys.{space_type, space_enum, name_is}
+use Rattle.btf_open_names.proofs.name_classes.Keys.{space_type, space_enum, name_is, key_some}
 use Rattle.proof_demands.specs.name_counts.Indexed.{number, NameFits, FitsValue, Holds, Indexed}
 
 pub number_one : (x y : Space) → number x ≡ number y → x ≡ y
@@ -33,21 +31,6 @@ number_some : (x : Space) (n : ℕ) → n ≡ number x → n ≢ 2
 unfolding number
 number_some tag_space n e z = omega arith
 number_some ident_space n e z = omega arith
-
-key_some : (s : List ℕ) (x p : ℕ) → x ≢ 2 → key_of s x p ≡ x ∷ name_at s p
-unfolding key_of
-key_some s x p n = rw (ne_eqb x 2 n, key_of)
-
-head_same : (x y : ℕ) (a c : List ℕ) → x ∷ a ≡ y ∷ c → x ≡ y
-head_same x y a c e = ap (λ (l : List ℕ). get_or l 0 0) e
-
-tail_of : List ℕ → List ℕ
-tail_of [] = []
-tail_of (x ∷ l) = l
-
-tail_same : (x y : ℕ) (a c : List ℕ) → x ∷ a ≡ y ∷ c → a ≡ c
-unfolding tail_of
-tail_same x y a c e = ap tail_of e
 
 module _ (b : TypeTable) (e : ℕ) (s w : List ℕ) where
   abbrev H : ℕ → Space → Name → Type 0
@@ -70,10 +53,10 @@ module _ (b : TypeTable) (e : ℕ) (s w : List ℕ) where
     same_keys e = sym (key_of_lem h x m p) ∙ sym (class_key (key_in b s w) h) ∙ ap (key_in b s w) e ∙ class_key (key_in b s w) k ∙ key_of_lem k y n q
 
     pub class_space : class_of (key_in b s w) h ≡ class_of (key_in b s w) k → x ≡ y
-    class_space e = number_one x y (head_same _ _ _ _ (same_keys e))
+    class_space e = number_one x y (head-eq_of_cons-eq (same_keys e))
 
     pub class_name : class_of (key_in b s w) h ≡ class_of (key_in b s w) k → m ≡ n
-    class_name e = tail_same _ _ _ _ (same_keys e)
+    class_name e = tail-eq_of_cons-eq (same_keys e)
 
 -- ---- types
 module _ (b : TypeTable) (s w : List ℕ) (id : ℕ) where
@@ -89,7 +72,7 @@ module _ (b : TypeTable) (s w : List ℕ) (id : ℕ) where
       zeroth z = n (void_kind _ (void_zero b s w id void_record z refl))
 
       below : id < b.types
-      below = ⊎_elim (λ l. absurd (n (void_kind _ (void_past b s w id void_record zeroth l refl)))) (λ l. l) (le_or_lt b.types id)
+      below = ⊎_elim (λ l. l) (λ l. absurd (n (void_kind _ (void_past b s w id void_record zeroth l refl)))) (cases_lt id b.types)
 
   pub record_there : id ≢ 0 → id < b.types → record_at b s (get_word w (record_p b.types id)) ≡ record_by_id b s w id
   record_there n l = by_id b s w id (get_word w (record_p b.types id)) _ n l (ap (get_word w) (sym (place_type b.types 0 0 id l))) refl

@@ -1,32 +1,27 @@
 -- The lists of a work are those at the classes of its holders; where every list is empty, the names are those of the Rust. Assumes nothing.
 use Prim.Native.Nat.{ℕ, zero, suc, ◌+◌, ◌-◌, ◌<◌}
 use mathlib.Core.Path.{◌≡◌, ap, ◌∙◌, sym}
-use mathlib.Core.Bool.{Bool, true, false}
+use mathlib.Core.Bool.{Bool, true}
 use mathlib.Core.List.{List, [], ◌∷◌}
 use mathlib.Core.Logic.{◌≢◌}
 use native.Mathlib.Omega.{arith}
-use borrow.Author.Tests.{ne_eqb}
 use Rattle.spec_bytes.specs.words.Words.{get_word, pick}
 use Rattle.spec_c_dumper.specs.rules.Types.{Name}
 use Rattle.spec_c_dumper.specs.rules.Names.{Space, tag_space, ident_space}
 use Rattle.spec_type_table.specs.declared.types.TypeTable.{TypeTable}
-use Rattle.spec_type_table.specs.Names.{name_at}
 use Rattle.spec_type_table.specs.Numbers.{head_p, numbers_from, taken_at}
 use Rattle.btf_open_names.specs.name_classes.Same.{same_list}
 use Rattle.btf_open_names.specs.name_classes.Classes.{least, class_of, record_p, name_of, key_of, key_in}
 use Rattle.btf_open_names.proofs.name_classes.Laws.{class_key, class_le}
 use Rattle.btf_open_names.proofs.name_classes.Names.{same_from}
+use Rattle.btf_open_names.proofs.name_classes.Keys.{key_some}
 use Rattle.proof_demands.specs.name_counts.Passed.{none}
 use Rattle.proof_demands.specs.name_counts.Indexed.{number, Holds, Listed, lists_in}
 
-number_named : (space : Space) → number space ≢ 2
+pub number_named : (space : Space) → number space ≢ 2
 unfolding number
 number_named tag_space e = absurd (omega (arith, e))
 number_named ident_space e = absurd (omega (arith, e))
-
-key_named : (s : List ℕ) (space at : ℕ) → space ≢ 2 → key_of s space at ≡ space ∷ name_at s at
-unfolding key_of
-key_named s space at n = ap (λ (t : Bool). space ∷ elim t as (λ z. List ℕ) [ true ↦ [] | false ↦ name_at s at ]) (ne_eqb space 2 n)
 
 least_stays : (p : ℕ → Bool) (h d : ℕ) → p (least p h) ≡ true → least p (h + d) ≡ least p h
 unfolding least
@@ -41,7 +36,7 @@ module _ (b : TypeTable) (e : ℕ) (s w : List ℕ) where
   unfolding key_in
   key_is h space name q =
       ap (λ (x : ℕ). key_of s x (name_of b s (get_word w (record_p b.types h)))) q.its_space
-      ∙ key_named s (number space) (name_of b s (get_word w (record_p b.types h))) (number_named space)
+      ∙ key_some s (number space) (name_of b s (get_word w (record_p b.types h))) (number_named space)
       ∙ ap (λ (l : List ℕ). number space ∷ l) (sym q.its_name)
 
   module _ (h : ℕ) where

@@ -5,8 +5,8 @@ use mathlib.Core.List.{List}
 use mathlib.Core.Logic.{⊎_elim}
 use native.Mathlib.Omega.{arith}
 use native.Mathlib.Decide.{ℕ_discrete}
+use Rattle.std.proofs.lemmas.Bool.{cases_lt}
 use Rattle.spec_bytes.specs.words.Words.{get_word}
-use Rattle.spec_bytes.proofs.words.Laws.{le_or_lt}
 use Rattle.spec_c_dumper.proofs.rules.Closed.{TypeFits}
 use Rattle.spec_c_dumper.specs.rules.Types.{BtfType}
 use Rattle.spec_type_table.specs.declared.types.TypeTable.{TypeTable}
@@ -35,9 +35,9 @@ module _ (b : TypeTable) (e : ℕ) (s w v : List ℕ) (K : CountsKept b e s w v)
       go : Dec (id ≡ 0) → record_by_id b s v id ≡ record_by_id b s w id
       go (yes z) = sym (void_zero b s v id void_record z refl) ∙ void_zero b s w id void_record z refl
       go (no n) = ⊎_elim
-          (λ l. sym (void_past b s v id void_record n l refl) ∙ void_past b s w id void_record n l refl)
           (λ l. sym (record_there b s v id n l) ∙ ap (record_at b s) (K.place id (omega arith)) ∙ record_there b s w id n l)
-          (le_or_lt b.types id)
+          (λ l. sym (void_past b s v id void_record n l refl) ∙ void_past b s w id void_record n l refl)
+          (cases_lt id b.types)
 
   pub type_now : (id : ℕ) → (btf_of b s v).type_by_id id ≡ (btf_of b s w).type_by_id id
   unfolding btf_of

@@ -13,6 +13,7 @@ use Rattle.spec_bytes.specs.words.Words.{get_word, one_more}
 use Rattle.spec_c_dumper.specs.rules.Types.{Name}
 use Rattle.spec_c_dumper.specs.rules.Names.{Space, ident_space, Resolved, Names, holders, with_one as one_more_holds}
 use Rattle.spec_c_dumper.proofs.rules.Related.{RelResolved, RelNaming}
+use Rattle.spec_c_dumper.proofs.rules.Names.{count_here}
 use Rattle.spec_type_table.specs.declared.types.TypeTable.{TypeTable}
 use Rattle.spec_type_table.specs.Cells.{get_field, put_field, class_p, count_p, count_raised}
 use Rattle.spec_type_table.specs.Numbers.{number_over, number_at}
@@ -22,7 +23,7 @@ use Rattle.btf_open_names.specs.name_classes.Classes.{key_in, class_of}
 use Rattle.proof_demands.specs.name_counts.Passed.{Lists, next_number, type_passed, value_passed, passed}
 use Rattle.proof_demands.specs.name_counts.Indexed.{NameFits, FitsValue, Holds, Indexed, Listed, CountsKept}
 use Rattle.proof_demands.specs.name_counts.Alike.{Alike, Fresh, no_names}
-use Rattle.proof_demands.proofs.name_counts.Holders.{count_here, count_there}
+use Rattle.proof_demands.proofs.name_counts.Holders.{count_there}
 use Rattle.proof_demands.proofs.name_counts.Keys.{one_class, class_space, class_name, type_holds, value_holds}
 use Rattle.proof_demands.proofs.name_counts.Stores.{class_below, number_is, count_is, count_grows, count_stays, count_version, count_kept, version_here, version_there, version_count, version_kept}
 

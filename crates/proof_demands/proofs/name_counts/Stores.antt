@@ -14,7 +14,7 @@ use Rattle.spec_type_table.specs.Cells.{get_field, put_field, place_of, class_p,
 use Rattle.spec_type_table.specs.Numbers.{head_p, next_p, taken_p, taken_at, number_over, number_at}
 use Rattle.btf_open_names.proofs.numbers.Lists.{taken_same}
 use Rattle.spec_type_table.proofs.Laws.{place_type}
-use Rattle.spec_type_table.proofs.Frame.{count_4, count_12, field_other}
+use Rattle.spec_type_table.proofs.Frame.{count_4, count_12, field_other, more_length, more_other}
 use Rattle.btf_open_names.specs.name_classes.Classes.{record_p, key_in, class_of}
 use Rattle.btf_open_names.proofs.name_classes.Laws.{class_le}
 use Rattle.btf_open_names.proofs.name_classes.Keys.{place_in, place_apart, count_one, class_count}
@@ -22,28 +22,12 @@ use Rattle.proof_demands.specs.name_counts.Indexed.{Indexed, CountsKept}
 
 -- ---- one more at a word
 module _ (w : List ℕ) (i : ℕ) where
-  more_length : length (with_more w i) ≡ length w
-  unfolding with_more
-  more_length = go (ltb (get_word w i) 4294967295)
-    where
-      go : (t : Bool) → length {A = ℕ} (elim t as (λ z. List ℕ) [ true ↦ put_word w i (get_word w i + 1) | false ↦ w ]) ≡ length w
-      go true = put_length w i (get_word w i + 1)
-      go false = refl
-
   more_same : i < length w / 4 → get_word (with_more w i) i ≡ one_more (get_word w i)
   unfolding with_more one_more
   more_same l = go (ltb (get_word w i) 4294967295)
     where
       go : (t : Bool) → get_word (elim t as (λ z. List ℕ) [ true ↦ put_word w i (get_word w i + 1) | false ↦ w ]) i ≡ pick t (get_word w i + 1) (get_word w i)
       go true = get_put_same w i (get_word w i + 1) l
-      go false = refl
-
-  more_other : (k : ℕ) → k ≢ i → get_word (with_more w i) k ≡ get_word w k
-  unfolding with_more
-  more_other k n = go (ltb (get_word w i) 4294967295)
-    where
-      go : (t : Bool) → get_word (elim t as (λ z. List ℕ) [ true ↦ put_word w i (get_word w i + 1) | false ↦ w ]) k ≡ get_word w k
-      go true = get_put_other w i k (get_word w i + 1) n
       go false = refl
 
 -- ---- the work w after opening, the work v now

@@ -3,30 +3,29 @@ use Prim.Native.Nat.{ℕ, zero, suc, ◌+◌, ◌≤◌, ◌<◌}
 use mathlib.Core.Path.{◌≡◌, refl, sym, ◌∙◌, ap, ap₂, subst}
 use mathlib.Core.Bool.{Bool, true, false, true≢false}
 use mathlib.Core.List.Memᴰ
-use mathlib.Core.List.{List, [], ◌∷◌, ◌++◌, Memᴰ}
+use mathlib.Core.List.{List, [], ◌∷◌, Memᴰ}
 use mathlib.Core.Logic.{◌⊎◌, inl, inr, ⊎_elim}
 use native.Mathlib.Omega.{arith}
 use lib.ListN.{length, get_or, set, replicate}
 use lib.Dec.{eqb}
-use borrow.Author.Tests.{eqb-true, eqb-false, lt-ltb, le-ltb}
-use Rattle.spec_bytes.specs.words.Words.{one_more, pick}
-use Rattle.spec_bytes.specs.text.Text.{ascii}
-use Rattle.spec_bytes.specs.text.Decimal.{decimal}
-use Rattle.spec_bytes.proofs.words.Laws.{le_or_lt}
+use borrow.Author.Tests.{eqb-true, eqb-false}
+use Rattle.std.proofs.lemmas.Bool.{cases_lt}
+use Rattle.spec_bytes.specs.words.Words.{one_more}
+use Rattle.spec_bytes.proofs.words.Laws.{more_is, more_stuck, set_one}
 use Rattle.spec_c_dumper.specs.rules.Machine.{Req}
 use Rattle.spec_c_dumper.specs.rules.Types.{Name, Btf, name_of, table_of}
-use Rattle.spec_c_dumper.specs.rules.Names.{Space, tag_space, ident_space, Resolved, Names, Holder, naming, spelled, same_space, same_bytes, holders, with_one, type_version, value_version}
+use Rattle.spec_c_dumper.specs.rules.Names.{Space, ident_space, Resolved, Names, Holder, naming, spelled, same_space, same_bytes, holders, with_one, type_version, value_version}
 use Rattle.spec_c_dumper.proofs.rules.Related.{RelResolved, RelNaming}
 use Rattle.spec_c_dumper.specs.needs.Needs.{WF}
 use Rattle.spec_c_dumper.specs.needs.Session.{dump_types, no_names}
 use Rattle.spec_c_dumper.proofs.needs.AnyNames.{dumps_alike}
-use Rattle.proof_demands.proofs.name_counts.Holders.{count_here, count_there}
+use Rattle.proof_demands.proofs.name_counts.Holders.{count_there}
 use Rattle.spec_c_dumper.specs.names_apart.Apart.{table_names, Who, of_type, of_value, Shown, Apart, spellings_in, is_name_among, taken, passing, number_for, shown, type_apart, value_apart, apart, none_shown, dump_apart, Ends}
+use Rattle.spec_c_dumper.proofs.rules.Names.{bytes_same, space_same, spelled_later, spelled_low, count_here}
 use Rattle.proof_names_apart.specs.names_apart.Alike.{Suffixless}
-use Rattle.proof_names_apart.proofs.names_apart.Laws.{bytes_same, spelled_later, more_is}
 use Rattle.proof_names_apart.proofs.names_apart.Splits.{splits_once}
 use Rattle.proof_names_apart.proofs.names_apart.Fair.{same_or_not, grows, space_of, entry}
-use Rattle.proof_names_apart.proofs.names_apart.Session.{Fits, FitsValue, fits, set_one}
+use Rattle.proof_names_apart.proofs.names_apart.Session.{Fits, FitsValue, fits}
 
 -- ---- what is among names stands there
 
@@ -38,12 +37,6 @@ among_mem x (y ∷ l) e = go (same_bytes x y) refl e (among_mem x l)
     go : (t : Bool) → same_bytes x y ≡ t → elim t as (λ w. Bool) [ true ↦ true | false ↦ is_name_among x l ] ≡ true → (is_name_among x l ≡ true → Memᴰ x l) → Memᴰ x (y ∷ l)
     go true q r f = Memᴰ.head (bytes_same x y q)
     go false q r f = Memᴰ.tail (f r)
-
-space_same : (x y : Space) → same_space x y ≡ true → x ≡ y
-space_same tag_space tag_space e = refl
-space_same tag_space ident_space e = absurd (true≢false (sym e))
-space_same ident_space tag_space e = absurd (true≢false (sym e))
-space_same ident_space ident_space e = refl
 
 pub in_spellings : (space : Space) (l : List Shown) (s : Name) → Memᴰ s (spellings_in space l) → (b : Shown) × Memᴰ b l × (b.space ≡ space) × (s ≡ b.spelling)
 unfolding spellings_in
@@ -75,10 +68,6 @@ sticks t (suc most) n e = go (t n) (sticks t most n e)
     go true r = ap (passing t most) e ∙ r
     go false r = refl
 
-pub more_stuck : (n : ℕ) → 4294967295 ≤ n → one_more n ≡ n
-unfolding one_more
-more_stuck n h = ap (λ (t : Bool). pick t (n + 1) n) (le-ltb n 4294967295 h)
-
 pub more_first : one_more 0 ≡ 1
 unfolding one_more
 more_first = refl
@@ -98,10 +87,6 @@ not_passed B space name u e = go (eqb h 0) refl
     go true q = sym (ap one_more (eqb-true (holders u.names.ledger space name) 0 q) ∙ more_first)
     go false q = stays (λ n. is_name_among (spelled name n) (taken B space u)) (length (taken B space u)) (one_more (holders u.names.ledger space name)) e
 
-pub spelled_low : (name : Name) (n : ℕ) → n < 2 → spelled name n ≡ name
-unfolding spelled
-spelled_low name n k = ap (λ (t : Bool). elim t as (λ w. Name) [ true ↦ name | false ↦ name ++ ascii "___" ++ decimal n ]) (lt-ltb n 2 k)
-
 module _ (B : Btf) (plain : Suffixless B) where
   -- a printed name is a name of the table, or one with a number that its holders have reached
   abbrev Reached : List Holder → Shown → Type 0
@@ -114,7 +99,7 @@ module _ (B : Btf) (plain : Suffixless B) where
 
   -- a name of the table, with a number that its holders have reached
   entry_reached : (l : List Holder) (space : Space) (who : Who) (name : Name) (n : ℕ) → Memᴰ name (table_names B space) → n ≤ 4294967295 → n ≤ holders l space name → Reached l (entry space who name n)
-  entry_reached l space who name n m b h = ⊎_elim (λ k. inr (name, n, refl, k, b, h)) (λ k. inl (subst (λ (x : Name). Memᴰ x (table_names B space)) (sym (spelled_low name n k)) m)) (le_or_lt 2 n)
+  entry_reached l space who name n m b h = ⊎_elim (λ k. inl (subst (λ (x : Name). Memᴰ x (table_names B space)) (sym (spelled_low name n k)) m)) (λ k. inr (name, n, refl, k, b, h)) (cases_lt n 2)
 
   reached_more : (l : List Holder) (space : Space) (name : Name) (a : Shown) → Reached l a → Reached (with_one l space name) a
   reached_more l space name a (inl m) = inl m
@@ -154,15 +139,15 @@ module _ (B : Btf) (plain : Suffixless B) where
         go : (t : Bool) → eqb c 0 ≡ t → elim t as (λ w. ℕ) [ true ↦ 1 | false ↦ passing (λ n. is_name_among (spelled name n) (taken B space u)) (length (taken B space u)) (one_more c) ] ≡ one_more c
         go true q = sym (ap one_more (eqb-true c 0 q) ∙ more_first)
         go false q = ⊎_elim
-            (λ l. let e : one_more c ≡ c = more_stuck c l in sticks (λ n. is_name_among (spelled name n) (taken B space u)) (length (taken B space u)) (one_more c) (ap one_more e))
             (λ l. stays (λ n. is_name_among (spelled name n) (taken B space u)) (length (taken B space u)) (one_more c) (free (eqb-false c 0 q) l))
-            (le_or_lt 4294967295 c)
+            (λ l. let e : one_more c ≡ c = more_stuck c l in sticks (λ n. is_name_among (spelled name n) (taken B space u)) (length (taken B space u)) (one_more c) (ap one_more e))
+            (cases_lt c 4294967295)
 
     -- and what is known stays so
     module _ (who : Who) (n : ℕ) (is_more : n ≡ one_more c) (versions : List ℕ)
         (holds : (id : ℕ) → (get_or versions id 0 ≡ get_or u.names.versions id 0) ⊎ ((space_of (B.type_by_id id) ≡ space) × (name_of (B.type_by_id id) ≡ name) × (get_or versions id 0 ≡ n))) where
       most : one_more c ≤ 4294967295
-      most = ⊎_elim (λ l. omega (arith, more_stuck c l, h.limits space name)) (λ l. omega (arith, more_is c l)) (le_or_lt 4294967295 c)
+      most = ⊎_elim (λ l. omega (arith, more_is c l)) (λ l. omega (arith, more_stuck c l, h.limits space name)) (cases_lt c 4294967295)
 
       pub usual_then : Usual (record { names = record { versions = versions; ledger = with_one u.names.ledger space name }; printed = entry space who name n ∷ u.printed })
       usual_then = record {

@@ -7,40 +7,18 @@ use mathlib.Core.List.{List, [], ◌∷◌, Memᴰ}
 use mathlib.Core.Logic.{◌⊎◌, inl, inr, ⊎_elim}
 use native.Mathlib.Omega.{arith}
 use lib.ListN.{length, get_or, length-append}
-use lib.Dec.{ltb, eqb}
-use borrow.Author.Tests.{eqb-true, eqb-false, ltb-false}
-use Rattle.spec_bytes.specs.words.Words.{one_more, pick}
+use lib.Dec.{eqb}
+use borrow.Author.Tests.{eqb-true, eqb-false}
+use Rattle.spec_bytes.specs.words.Words.{one_more}
+use Rattle.spec_bytes.proofs.words.Laws.{more_is, more_some, more_most, more_least}
 use Rattle.spec_c_dumper.specs.rules.Types.{Name, BtfType, Void, Int, Ptr, Array, Composite, Enum, Enum64, Fwd, Typedef, Mod, Func, Var, Datasec, FuncProto, Float, DeclTag, TypeTag, Btf, name_of}
 use Rattle.spec_c_dumper.specs.rules.Names.{Space, tag_space, ident_space, Names, Holder, spelled, same_space, same_bytes, holders, with_one}
-use Rattle.proof_demands.proofs.name_counts.Holders.{count_here, count_there}
+use Rattle.proof_demands.proofs.name_counts.Holders.{count_there}
 use Rattle.spec_c_dumper.specs.names_apart.Apart.{table_names, Who, of_type, of_value, Shown, Apart, spellings_in, is_name_among, taken, passing, number_for, OneType, Alone, AllApart, Enough}
-use Rattle.proof_names_apart.proofs.names_apart.Laws.{bytes_same, bytes_self, not_among, spelling_in, fewer, spelled_first, more_is, ends_free}
+use Rattle.spec_c_dumper.proofs.rules.Names.{bytes_self, bytes_same, count_here}
+use Rattle.proof_names_apart.proofs.names_apart.Laws.{not_among, spelling_in, fewer, spelled_first, ends_free}
 
 -- ---- one more holder
-
-pub more_some : (n : ℕ) → 1 ≤ one_more n
-unfolding one_more
-more_some n = go (ltb n 4294967295) refl
-  where
-    go : (b : Bool) → ltb n 4294967295 ≡ b → 1 ≤ pick b (n + 1) n
-    go true q = omega arith
-    go false q = omega (arith, ltb-false n 4294967295 q)
-
-pub more_most : (n : ℕ) → one_more n ≤ n + 1
-unfolding one_more
-more_most n = go (ltb n 4294967295)
-  where
-    go : (b : Bool) → pick b (n + 1) n ≤ n + 1
-    go true = omega arith
-    go false = omega arith
-
-pub more_least : (n : ℕ) → n ≤ one_more n
-unfolding one_more
-more_least n = go (ltb n 4294967295)
-  where
-    go : (b : Bool) → n ≤ pick b (n + 1) n
-    go true = omega arith
-    go false = omega arith
 
 -- the same space and name, or not
 pub same_or_not : (space space' : Space) (name name' : Name) → ((space ≡ space') × (name ≡ name')) ⊎ (space ≡ space' → name ≡ name' → ⊥)

@@ -1,42 +1,22 @@
 -- Laws of the search for a number: names are equal by content, suffixes of different numbers differ, and the search ends at a number that is not
 -- taken. Assumes nothing.
-use Prim.Native.Nat.{ℕ, zero, suc, ◌+◌, ◌≤◌, ◌<◌}
-use mathlib.Core.Path.{◌≡◌, refl, sym, ◌∙◌, ap, ap₂}
+use Prim.Native.Nat.{ℕ, zero, suc, ◌+◌, ◌≤◌}
+use mathlib.Core.Path.{◌≡◌, refl, sym, ◌∙◌, ap}
 use mathlib.Core.Bool.{Bool, true, false, true≢false}
 use mathlib.Core.List.Memᴰ
 use mathlib.Core.List.{List, [], ◌∷◌, ◌++◌, Memᴰ, append_cancel_left}
 use mathlib.Core.Logic.{◌⊎◌, inl, inr}
 use native.Mathlib.Omega.{arith}
 use lib.ListN.{length}
-use lib.Dec.{eqb}
-use borrow.Author.Tests.{eqb-true, eq-eqb, lt-ltb, le-ltb}
-use Rattle.spec_bytes.specs.words.Words.{one_more, pick}
+use Rattle.spec_bytes.specs.words.Words.{one_more}
 use Rattle.spec_bytes.specs.text.Text.{ascii}
 use Rattle.spec_bytes.specs.text.Decimal.{decimal}
 use Rattle.spec_bytes.proofs.text.Digits.{horner, decimal_is}
+use Rattle.spec_bytes.proofs.words.Laws.{more_is}
 use Rattle.spec_c_dumper.specs.rules.Types.{Name}
-use Rattle.spec_c_dumper.specs.rules.Names.{Space, tag_space, ident_space, same_space, same_bytes, spelled}
+use Rattle.spec_c_dumper.specs.rules.Names.{Space, same_space, same_bytes, spelled}
 use Rattle.spec_c_dumper.specs.names_apart.Apart.{Shown, is_name_among, passing, spellings_in}
-
-pub space_self : (x : Space) → same_space x x ≡ true
-space_self tag_space = refl
-space_self ident_space = refl
-
-pub bytes_self : (x : List ℕ) → same_bytes x x ≡ true
-unfolding same_bytes
-bytes_self [] = refl
-bytes_self (a ∷ x) = ap (λ (t : Bool). elim t as (λ z. Bool) [ true ↦ same_bytes x x | false ↦ false ]) (eq-eqb a a refl) ∙ bytes_self x
-
-pub bytes_same : (x y : List ℕ) → same_bytes x y ≡ true → x ≡ y
-unfolding same_bytes
-bytes_same [] [] e = refl
-bytes_same [] (a ∷ y) e = absurd (true≢false (sym e))
-bytes_same (a ∷ x) [] e = absurd (true≢false (sym e))
-bytes_same (a ∷ x) (c ∷ y) e = step (eqb a c) refl e (bytes_same x y)
-  where
-    step : (t : Bool) → eqb a c ≡ t → elim t as (λ z. Bool) [ true ↦ same_bytes x y | false ↦ false ] ≡ true → (same_bytes x y ≡ true → x ≡ y) → a ∷ x ≡ c ∷ y
-    step true q r f = ap₂ ◌∷◌ (eqb-true a c q) (f r)
-    step false q r f = absurd (true≢false (sym r))
+use Rattle.spec_c_dumper.proofs.rules.Names.{bytes_self, bytes_same, space_self, spelled_later}
 
 pub bytes_other : (x y : List ℕ) → (x ≡ y → ⊥) → same_bytes x y ≡ false
 bytes_other x y n = go (same_bytes x y) refl
@@ -107,19 +87,11 @@ pub spelled_first : (name : Name) → spelled name 1 ≡ name
 unfolding spelled
 spelled_first name = refl
 
-pub spelled_later : (name : Name) (n : ℕ) → 2 ≤ n → spelled name n ≡ name ++ ascii "___" ++ decimal n
-unfolding spelled
-spelled_later name n h = ap (λ (t : Bool). elim t as (λ w. Name) [ true ↦ name | false ↦ name ++ ascii "___" ++ decimal n ]) (le-ltb n 2 h)
-
 -- different numbers, different suffixes
 pub suffix_one : (name : Name) (n m : ℕ) → 2 ≤ n → 2 ≤ m → n ≤ 4294967295 → m ≤ 4294967295 → spelled name n ≡ spelled name m → n ≡ m
 suffix_one name n m h k p q e =
     let d : decimal n ≡ decimal m = append_cancel_left (name ++ ascii "___") (decimal n) (decimal m) (sym (spelled_later name n h) ∙ e ∙ spelled_later name m k) in
     sym (decimal_is n (omega arith)).means ∙ ap (horner 0) d ∙ (decimal_is m (omega arith)).means
-
-pub more_is : (n : ℕ) → n < 4294967295 → one_more n ≡ n + 1
-unfolding one_more
-more_is n h = ap (λ (t : Bool). pick t (n + 1) n) (lt-ltb n 4294967295 h)
 
 -- The search ends at a number that is not taken, after at most as many steps as there are names taken: l, of which t tells.
 pub ends_free : (name : Name) (most : ℕ) (t : ℕ → Bool) (l : List Name) → length l ≤ most → (n : ℕ) → 2 ≤ n → n + most ≤ 4294967295

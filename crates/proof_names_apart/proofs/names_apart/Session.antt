@@ -11,7 +11,8 @@ use native.Mathlib.Decide.{ℕ_discrete}
 use lib.ListN.{get_or, set, replicate, length-replicate}
 use lib.Dec.{eqb}
 use borrow.Author.Tests.{eqb-false}
-use Rattle.spec_bytes.proofs.words.Laws.{le_or_lt}
+use Rattle.std.proofs.lemmas.Bool.{cases_lt}
+use Rattle.spec_bytes.proofs.words.Laws.{set_one}
 use Rattle.spec_c_dumper.specs.rules.Order.{new}
 use Rattle.spec_c_dumper.specs.rules.Machine.{Sess, Req, run}
 use Rattle.spec_c_dumper.specs.rules.Types.{Name, Enumerator, BtfType, Void, Int, Ptr, Array, Composite, Enum, Enum64, Fwd, Typedef, Mod, Func, Var, Datasec, FuncProto, Float, DeclTag, TypeTag, Btf, name_of, table_of}
@@ -72,18 +73,11 @@ module _ (B : Btf) where
 
   pub fits : Ends B → (id : ℕ) → TypeFits Fits FitsValue id (B.type_by_id id)
   fits ends id = ⊎_elim
-      (λ l. subst (λ (t : BtfType). TypeFits Fits FitsValue id t) (sym (ends id l)) tt)
       (λ l. type_fits id (B.type_by_id id) refl (λ space x m. in_table space x id B.type_cnt l m))
-      (le_or_lt B.type_cnt id)
+      (λ l. subst (λ (t : BtfType). TypeFits Fits FitsValue id t) (sym (ends id l)) tt)
+      (cases_lt id B.type_cnt)
 
 -- ---- each name that is given keeps all apart
-
-pub set_one : (l : List ℕ) (i n j : ℕ) → (get_or (set l i n) j 0 ≡ get_or l j 0) ⊎ ((j ≡ i) × (get_or (set l i n) j 0 ≡ n))
-set_one [] i n j = inl refl
-set_one (x ∷ l) zero n zero = inr (refl, refl)
-set_one (x ∷ l) zero n (suc j) = inl refl
-set_one (x ∷ l) (suc i) n zero = inl refl
-set_one (x ∷ l) (suc i) n (suc j) = ⊎_elim (λ e. inl e) (λ e. inr (ap suc e.0, e.1)) (set_one l i n j)
 
 module _ (B : Btf) where
   -- few enough were printed before, if few enough are printed after

@@ -1,26 +1,14 @@
 -- A spelling with a number splits in one way only into base, three underscores and digits. Assumes nothing.
 use Prim.Native.Nat.{ℕ, ◌≤◌}
 use mathlib.Core.Path.{◌≡◌, refl, sym, ◌∙◌, ap, ap₂, subst}
-use mathlib.Core.List.{List, [], ◌∷◌, ◌++◌, append_cancel_right}
+use mathlib.Core.List.{List, [], ◌∷◌, ◌++◌, append_cancel_right, head-eq_of_cons-eq, tail-eq_of_cons-eq}
 use native.Mathlib.Omega.{arith}
-use lib.ListN.{get_or}
 use Rattle.spec_bytes.specs.text.Text.{ascii}
 use Rattle.spec_bytes.specs.text.Decimal.{decimal}
 use Rattle.spec_bytes.proofs.text.Digits.{horner, AllDigits, decimal_is}
 use Rattle.spec_c_dumper.specs.rules.Types.{Name}
 use Rattle.spec_c_dumper.specs.rules.Names.{spelled}
-use Rattle.proof_names_apart.proofs.names_apart.Laws.{spelled_later}
-
-rest : List ℕ → List ℕ
-rest [] = []
-rest (x ∷ l) = l
-
-head_same : (x y : ℕ) (a c : List ℕ) → x ∷ a ≡ y ∷ c → x ≡ y
-head_same x y a c e = ap (λ (l : List ℕ). get_or l 0 0) e
-
-tail_same : (x y : ℕ) (a c : List ℕ) → x ∷ a ≡ y ∷ c → a ≡ c
-unfolding rest
-tail_same x y a c e = ap rest e
+use Rattle.spec_c_dumper.proofs.rules.Names.{spelled_later}
 
 -- an underscore is no digit
 no_underscore : (b e : List ℕ) → AllDigits (b ++ (95 ∷ e)) → ⊥
@@ -29,12 +17,12 @@ no_underscore (y ∷ b) e h = no_underscore b e h.2
 
 -- the digits after the last underscore
 last_underscore : (a b d e : List ℕ) → AllDigits d → AllDigits e → a ++ (95 ∷ d) ≡ b ++ (95 ∷ e) → (a ≡ b) × (d ≡ e)
-last_underscore [] [] d e p q r = (refl, tail_same 95 95 d e r)
-last_underscore [] (y ∷ b) d e p q r = absurd (no_underscore b e (subst AllDigits (tail_same 95 y d (b ++ (95 ∷ e)) r) p))
-last_underscore (x ∷ a) [] d e p q r = absurd (no_underscore a d (subst AllDigits (sym (tail_same x 95 (a ++ (95 ∷ d)) e r)) q))
+last_underscore [] [] d e p q r = (refl, tail-eq_of_cons-eq r)
+last_underscore [] (y ∷ b) d e p q r = absurd (no_underscore b e (subst AllDigits (tail-eq_of_cons-eq r) p))
+last_underscore (x ∷ a) [] d e p q r = absurd (no_underscore a d (subst AllDigits (sym (tail-eq_of_cons-eq r)) q))
 last_underscore (x ∷ a) (y ∷ b) d e p q r =
-    let t = last_underscore a b d e p q (tail_same x y (a ++ (95 ∷ d)) (b ++ (95 ∷ e)) r) in
-    (ap₂ ◌∷◌ (head_same x y (a ++ (95 ∷ d)) (b ++ (95 ∷ e)) r) t.0, t.1)
+    let t = last_underscore a b d e p q (tail-eq_of_cons-eq r) in
+    (ap₂ ◌∷◌ (head-eq_of_cons-eq r) t.0, t.1)
 
 three : (x d : List ℕ) → x ++ ascii "___" ++ d ≡ (x ++ ascii "__") ++ (95 ∷ d)
 three [] d = refl

@@ -3,16 +3,12 @@ use Prim.Native.Nat.{ℕ}
 use native.Mathlib.Decide.{ℕ_discrete}
 use mathlib.Core.Path.{◌≡◌, refl, sym, ◌∙◌, ap}
 use mathlib.Core.List.{List}
-use Rattle.spec_c_dumper.specs.rules.Types.{Void}
 use Rattle.spec_type_table.specs.declared.types.TypeTable.{TypeTable}
 use Rattle.spec_type_table.specs.Records.{void_record, record_by_id}
 use Rattle.spec_type_table.specs.Table.{btf_of, type_of}
 use Rattle.spec_type_table.proofs.Laws.{void_past, void_zero}
 use Rattle.spec_c_dumper.specs.names_apart.Apart.{Ends}
-
-void_type : (b : TypeTable) (s : List ℕ) → type_of b s void_record ≡ Void
-unfolding type_of void_record
-void_type b s = refl
+use Rattle.proof_demands.proofs.demands.Described.{void_type}
 
 pub table_ends : (b : TypeTable) (s w : List ℕ) → Ends (btf_of b s w)
 unfolding btf_of

@@ -10,19 +10,19 @@ use native.Mathlib.Omega.{arith}
 use native.Mathlib.Decide.{ℕ_discrete}
 use lib.Dec.{leb, eqb}
 use borrow.Author.Tests.{leb-true, le-leb, lt-leb, eqb-true, eq-eqb}
+use Rattle.std.proofs.lemmas.Bool.{cases_lt}
 use Rattle.spec_bytes.specs.words.Words.{get_word}
 use Rattle.spec_bytes.specs.text.Text.{ascii}
 use Rattle.spec_bytes.specs.text.Decimal.{decimal}
-use Rattle.spec_bytes.proofs.words.Laws.{le_or_lt}
 use Rattle.spec_c_dumper.specs.rules.Types.{Name}
 use Rattle.spec_c_dumper.specs.rules.Names.{spelled}
+use Rattle.spec_c_dumper.proofs.rules.Names.{spelled_later}
 use Rattle.spec_type_table.specs.declared.types.TypeTable.{TypeTable}
 use Rattle.spec_type_table.specs.Cells.{class_p}
 use Rattle.btf_open_names.specs.name_classes.Classes.{key_in, class_of}
 use Rattle.btf_open_names.proofs.name_classes.Laws.{class_first, class_same}
 use Rattle.btf_open_names.specs.filled_work.Takers.{suffix_in, suffix_on, any_suffix, name_in, base_from}
 use Rattle.btf_open_names.specs.numbers.Lists.{Distinct}
-use Rattle.proof_names_apart.proofs.names_apart.Laws.{spelled_later}
 use Rattle.proof_names_apart.proofs.names_apart.Splits.{splits_once}
 use Rattle.proof_names_apart.proofs.passed_numbers.Suffixes.{suffix_sound, suffix_complete}
 use Rattle.proof_names_apart.specs.taken_lists.Listed.{numbers_on, base_of, number_of}
@@ -157,13 +157,13 @@ module _ (b : TypeTable) (e : ℕ) (s w : List ℕ) (some : 1 ≤ b.types) (clas
 
     before : (j : ℕ) → 1 ≤ j → j < suc c → suffix_on (key j) (key x) < 2
     before j l k = ⊎_elim
+        (λ h. h)
         (λ h.
         let r = suffix_sound (key j) (key x) (suffix_on (key j) (key x)) refl h in
         let q = splits_once (key (suc c)) (key j) m (suffix_on (key j) (key x)) two h limit r.1 (sym kx ∙ r.0) in
         let z : class_of key (suc c) ≤ j = class_first key j (suc c) (omega arith) (sym q.0) in
         absurd (omega (arith, z, first)))
-        (λ h. h)
-        (le_or_lt 2 (suffix_on (key j) (key x)))
+        (cases_lt (suffix_on (key j) (key x)) 2)
 
     e_class : eqb (get_word w (class_p b.types x)) x ≡ true
     e_class = eq-eqb (get_word w (class_p b.types x)) x (classed x lx ∙ its)

@@ -10,10 +10,10 @@ use native.Mathlib.Decide.{ℕ_discrete}
 use lib.ListN.{length, get_or}
 use lib.Dec.{eqb}
 use borrow.Author.Tests.{eqb-true, ne_eqb}
+use Rattle.std.proofs.lemmas.Bool.{cases_lt}
 use Rattle.spec_bytes.specs.words.Words.{get_word}
-use Rattle.spec_bytes.proofs.words.Laws.{le_or_lt}
 use Rattle.spec_c_dumper.specs.rules.Types.{Name, Btf as Rules}
-use Rattle.spec_c_dumper.specs.rules.Names.{Space, tag_space, ident_space, spelled}
+use Rattle.spec_c_dumper.specs.rules.Names.{Space, ident_space, spelled}
 use Rattle.spec_type_table.specs.declared.types.TypeTable.{TypeTable}
 use Rattle.spec_type_table.specs.Cells.{class_p}
 use Rattle.spec_type_table.specs.Names.{name_at}
@@ -37,7 +37,7 @@ use Rattle.spec_opening.proofs.ReadBack.{header_ok, types_ok, order_ok, types_ar
 use Rattle.proof_demands.specs.name_counts.Indexed.{IsEnum, number, Value, place_of_value, Holds, Indexed, lists_in}
 use Rattle.proof_demands.proofs.name_counts.Keys.{key_of_lem}
 use Rattle.proof_demands.proofs.name_counts.Classed.{keys_stay}
-use Rattle.proof_demands.proofs.name_counts.Lists.{lists_are}
+use Rattle.proof_demands.proofs.name_counts.Lists.{lists_are, number_named}
 use Rattle.proof_demands.specs.demands.Table.{header_of, opened_table}
 use Rattle.proof_demands.proofs.demands.Named.{opened_indexed}
 use Rattle.spec_c_dumper.specs.names_apart.Apart.{table_names}
@@ -66,11 +66,6 @@ tail_of : List ℕ → List ℕ
 tail_of [] = []
 tail_of (x ∷ l) = l
 
-number_some : (space : Space) → number space ≢ 2
-unfolding number
-number_some tag_space e = omega (arith, e)
-number_some ident_space e = omega (arith, e)
-
 key_head : (s : List ℕ) (x at : ℕ) → head_of (key_of s x at) ≡ x
 unfolding key_of head_of
 key_head s x at = refl
@@ -89,7 +84,7 @@ module _ (b : TypeTable) (e : ℕ) (s w : List ℕ) where
   key_holds x space y l k = record {
     below = l;
     its_space = sp;
-    its_name = sym (ap tail_of k) ∙ key_tail s (space_at b s (get_word w (record_p b.types x)) x) (name_of b s (get_word w (record_p b.types x))) (λ z. number_some space (sym sp ∙ z));
+    its_name = sym (ap tail_of k) ∙ key_tail s (space_at b s (get_word w (record_p b.types x)) x) (name_of b s (get_word w (record_p b.types x))) (λ z. number_named space (sym sp ∙ z));
   }
     where
       sp : space_at b s (get_word w (record_p b.types x)) x ≡ number space
@@ -97,7 +92,7 @@ module _ (b : TypeTable) (e : ℕ) (s w : List ℕ) where
 
   not_void : (space : Space) (y : Name) → key_in b s w 0 ≡ number space ∷ y → ⊥
   unfolding head_of
-  not_void space y k = number_some space (sym (ap head_of k) ∙ key_void b s w)
+  not_void space y k = number_named space (sym (ap head_of k) ∙ key_void b s w)
 
 -- ---- an opened section
 module _ (p modes : ℕ) (s : List ℕ) (n : ℕ) (ok : opening_number p s n ≡ 0) where
@@ -146,11 +141,11 @@ module _ (p modes : ℕ) (s : List ℕ) (n : ℕ) (ok : opening_number p s n ≡
   unfolding enums_to
   find zero k l = absurd (omega arith)
   find (suc m) k l = ⊎_elim
+      (λ q. let r = find m k q in (r.0, r.1, omega (arith, r.2), r.3, r.4))
       (λ q.
       let z : m ≡ suc m - 1 = omega arith in
       (suc m, omega arith, omega arith, subst (λ (x : ℕ). enums_to b s (index_of s) x ≤ k) z q, subst (λ (x : ℕ). k < enums_to b s (index_of s) x + values_at b s (get_or (index_of s) (suc m) 0)) z l))
-      (λ q. let r = find m k q in (r.0, r.1, omega (arith, r.2), r.3, r.4))
-      (le_or_lt (enums_to b s (index_of s) m) k)
+      (cases_lt k (enums_to b s (index_of s) m))
 
   values_enum : (entry k : ℕ) → k < values_at b s entry → is_enum (entry % 32) ≡ true
   unfolding values_at
@@ -199,7 +194,7 @@ module _ (p modes : ℕ) (s : List ℕ) (n : ℕ) (ok : opening_number p s n ≡
 
   -- the name of a holder is a name of the table's same space
   holder_named : (x : ℕ) (space : Space) (y : Name) → Holds b e s w x space y → Memᴰ y (table_names B space)
-  holder_named x space y q = ⊎_elim past (λ l. type_named b e s w x space y l q) (le_or_lt b.types x)
+  holder_named x space y q = ⊎_elim (λ l. type_named b e s w x space y l q) past (cases_lt x b.types)
     where
       past : b.types ≤ x → Memᴰ y (table_names B space)
       past l =

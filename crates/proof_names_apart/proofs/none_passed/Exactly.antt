@@ -1,35 +1,24 @@
 -- A number is passed over exactly if the number that is taken is not the one after the holders there are. Assumes nothing.
-use Prim.Native.Nat.{ℕ, zero, suc, ◌+◌, ◌<◌, ◌≤◌}
+use Prim.Native.Nat.{ℕ, suc, ◌+◌, ◌<◌}
 use mathlib.Core.Path.{◌≡◌, refl, sym, subst}
 use mathlib.Core.Bool.{Bool, true, false, true≢false}
 use mathlib.Core.List.{List, [], ◌∷◌}
 use native.Mathlib.Omega.{arith}
-use native.Mathlib.Nat.{le_refl}
 use lib.ListN.{length}
 use lib.Dec.{eqb}
 use Rattle.spec_bytes.specs.words.Words.{one_more}
+use Rattle.spec_bytes.proofs.words.Laws.{more_is}
 use Rattle.spec_c_dumper.specs.rules.Types.{Name, Btf}
 use Rattle.spec_c_dumper.specs.rules.Names.{Space, spelled, holders}
 use Rattle.spec_c_dumper.specs.names_apart.Apart.{Apart, is_name_among, taken, passing, number_for}
-use Rattle.proof_names_apart.proofs.names_apart.Laws.{more_is}
-use Rattle.proof_names_apart.proofs.names_apart.Fair.{more_least}
 use Rattle.proof_names_apart.specs.none_passed.Watched.{passes_over}
 use Rattle.proof_names_apart.specs.none_passed.Claims.{Exact}
 use Rattle.proof_names_apart.proofs.none_passed.Lines.{passes_none}
-
--- the search only rises
-rises : (t : ℕ → Bool) (most n : ℕ) → n ≤ passing t most n
-unfolding passing
-rises t zero n = le_refl n
-rises t (suc most) n = go (t n) (rises t most (one_more n))
-  where
-    go : (b : Bool) → one_more n ≤ passing t most (one_more n) → n ≤ elim b as (λ z. ℕ) [ true ↦ passing t most (one_more n) | false ↦ n ]
-    go true h = omega (arith, h, more_least n)
-    go false h = le_refl n
+use Rattle.proof_names_apart.proofs.passed_numbers.Search.{from}
 
 moves : (t : ℕ → Bool) (most n : ℕ) → t n ≡ true → n < 4294967295 → n < passing t (suc most) n
 unfolding passing
-moves t most n e l = subst (λ (b : Bool). n < elim b as (λ z. ℕ) [ true ↦ passing t most (one_more n) | false ↦ n ]) (sym e) (omega (arith, rises t most (one_more n), more_is n l))
+moves t most n e l = subst (λ (b : Bool). n < elim b as (λ z. ℕ) [ true ↦ passing t most (one_more n) | false ↦ n ]) (sym e) (omega (arith, from t most (one_more n), more_is n l))
 
 -- what is among a list is not among none
 some : (x : Name) (l : List Name) (t : ℕ → Bool) (n : ℕ) → is_name_among x l ≡ true → t n ≡ true → n < 4294967295 → n < passing t (length l) n

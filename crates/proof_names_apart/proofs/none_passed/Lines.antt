@@ -2,7 +2,7 @@
 -- equal, and from there on both lines are refused. Assumes nothing.
 use Prim.Native.Nat.{ℕ, ◌+◌}
 use mathlib.Core.Path.{◌≡◌, refl, ap, ◌∙◌, sym, subst}
-use mathlib.Core.Bool.{Bool, true, false, ◌||◌}
+use mathlib.Core.Bool.{Bool, true, false, ◌||◌, or-true}
 use mathlib.Core.List.{List, [], ◌∷◌}
 use mathlib.Core.Logic.{◌⊎◌, inl, inr, ⊎_elim}
 use lib.ListN.{get_or, set}
@@ -22,10 +22,6 @@ use Rattle.spec_c_dumper.specs.names_apart.Apart.{of_type, of_value, Apart, is_n
 use Rattle.proof_names_apart.proofs.names_apart.Alike.{not_passed, more_first}
 use Rattle.proof_names_apart.specs.none_passed.Watched.{passes_over, Watched, type_watched, value_watched, watched, passed_over, line_watched, lines_watched}
 use Rattle.proof_names_apart.proofs.none_passed.Stops.{LineUp, LinesUp}
-
-or_true : (b : Bool) → (b || true) ≡ true
-or_true true = refl
-or_true false = refl
 
 -- ---- every name fits
 abbrev pub AnyName : Space → ℕ → Name → Type 0
@@ -197,7 +193,7 @@ module _ (B : Btf) where
     by t n = elim t as (λ z. Resolved Watched) [ true ↦ new_type space id name w n | false ↦ old_type space id name w ]
 
     by_keeps : (t : Bool) (n : ℕ) → w.over ≡ true → (by t n).names.over ≡ true
-    by_keeps true n e = ap (λ (z : Bool). passes_over B space name w.names || z) e ∙ or_true (passes_over B space name w.names)
+    by_keeps true n e = ap (λ (z : Bool). passes_over B space name w.names || z) e ∙ or-true (passes_over B space name w.names)
     by_keeps false n e = e
 
     by_step : (t : Bool) → (by t (number_for B space name w.names) ≡ by t (c space name w))
@@ -223,7 +219,7 @@ module _ (B : Btf) where
   value_step id i name = record { keeps₁ = keeps; keeps₂ = keeps; step = λ w. go w (passes_over B ident_space name w.names) refl }
     where
       keeps : (w : Watched) → w.over ≡ true → passed ident_space name w ≡ true
-      keeps w e = ap (λ (z : Bool). passes_over B ident_space name w.names || z) e ∙ or_true (passes_over B ident_space name w.names)
+      keeps w e = ap (λ (z : Bool). passes_over B ident_space name w.names || z) e ∙ or-true (passes_over B ident_space name w.names)
 
       go : (w : Watched) (q : Bool) → passes_over B ident_space name w.names ≡ q
           → (new_value id i name w (number_for B ident_space name w.names) ≡ new_value id i name w (c ident_space name w)) ⊎ ((passed ident_space name w ≡ true) × (passed ident_space name w ≡ true))

@@ -11,8 +11,9 @@ use native.Mathlib.Omega.{arith}
 use lib.ListN.{length, get_or, set, replicate}
 use lib.Dec.{eqb}
 use borrow.Author.Tests.{eqb-true, eqb-false}
+use Rattle.std.proofs.lemmas.Bool.{cases_lt}
 use Rattle.spec_bytes.specs.words.Words.{one_more}
-use Rattle.spec_bytes.proofs.words.Laws.{le_or_lt}
+use Rattle.spec_bytes.proofs.words.Laws.{more_is, more_stuck, more_some, more_most, set_one}
 use Rattle.spec_c_dumper.specs.rules.Machine.{Req}
 use Rattle.spec_c_dumper.specs.rules.Types.{Name, Btf, name_of, table_of}
 use Rattle.spec_c_dumper.specs.rules.Names.{Space, ident_space, Resolved, Names, Holder, spelled, holders, with_one}
@@ -20,13 +21,14 @@ use Rattle.spec_c_dumper.proofs.rules.Related.{RelResolved, RelNaming}
 use Rattle.spec_c_dumper.specs.needs.Needs.{WF}
 use Rattle.spec_c_dumper.specs.needs.Session.{no_names}
 use Rattle.spec_c_dumper.proofs.needs.AnyNames.{dumps_alike}
-use Rattle.proof_demands.proofs.name_counts.Holders.{count_here, count_there}
+use Rattle.proof_demands.proofs.name_counts.Holders.{count_there}
 use Rattle.spec_c_dumper.specs.names_apart.Apart.{table_names, Who, of_type, of_value, Shown, Apart, spellings_in, is_name_among, taken, passing, number_for, shown, type_apart, value_apart, apart, none_shown, dump_apart, Ends}
-use Rattle.proof_names_apart.proofs.names_apart.Laws.{mem_among, spelling_in, spelled_first, more_is}
+use Rattle.spec_c_dumper.proofs.rules.Names.{count_here}
+use Rattle.proof_names_apart.proofs.names_apart.Laws.{mem_among, spelling_in, spelled_first}
 use Rattle.proof_names_apart.proofs.names_apart.Splits.{splits_once}
-use Rattle.proof_names_apart.proofs.names_apart.Fair.{more_some, more_most, same_or_not, grows, space_of, entry, own}
-use Rattle.proof_names_apart.proofs.names_apart.Alike.{among_mem, in_spellings, more_stuck, more_first}
-use Rattle.proof_names_apart.proofs.names_apart.Session.{Fits, FitsValue, fits, set_one}
+use Rattle.proof_names_apart.proofs.names_apart.Fair.{same_or_not, grows, space_of, entry, own}
+use Rattle.proof_names_apart.proofs.names_apart.Alike.{among_mem, in_spellings, more_first}
+use Rattle.proof_names_apart.proofs.names_apart.Session.{Fits, FitsValue, fits}
 use Rattle.spec_type_table.specs.Numbers.{number_over}
 use Rattle.proof_demands.specs.name_counts.Passed.{Lists, next_number, type_passed, value_passed, passed}
 use Rattle.proof_names_apart.specs.passed_numbers.Passed.{dump_passed, Right}
@@ -59,7 +61,7 @@ module _ (B : Btf) (T : Lists) (right : Right B T) where
 
   entry_reached : (l : List Holder) (space : Space) (who : Who) (name : Name) (j : ℕ) → Memᴰ name (table_names B space) → 1 ≤ j → j ≤ 4294967295 → j ≤ holders l space name
       → Reached l (entry space who name (number_over (T space name) j))
-  entry_reached l space who name j m o b h = ⊎_elim (λ k. inr (name, j, refl, k, b, h)) (λ k. inl (first (omega arith))) (le_or_lt 2 j)
+  entry_reached l space who name j m o b h = ⊎_elim (λ k. inl (first (omega arith))) (λ k. inr (name, j, refl, k, b, h)) (cases_lt j 2)
     where
       first : j ≡ 1 → Memᴰ (nth space name j) (table_names B space)
       first e = subst (λ (x : Name). Memᴰ x (table_names B space)) (sym (ap (nth space name) e ∙ ap (spelled name) (first_is (T space name) (right.suffixes space name m)) ∙ spelled_first name)) m
@@ -103,7 +105,7 @@ module _ (B : Btf) (T : Lists) (right : Right B T) where
           inr (r.1, r.3, less (omega (arith, z, r.5)), w.1 ∙ ap₂ (λ (x : Space) (y : Name). number_over (T x y) r.1) e (sym w.0))
         where
           less : r.1 ≤ c → r.1 < k
-          less x = ⊎_elim (λ y. absurd (omega (arith, more_stuck c y))) (λ y. omega (arith, more_is c y)) (le_or_lt 4294967295 c)
+          less x = ⊎_elim (λ y. omega (arith, more_is c y)) (λ y. absurd (omega (arith, more_stuck c y))) (cases_lt c 4294967295)
 
       found : (m : ℕ) → k ≤ m → m < 4294967295 → t m ≡ true → Found m
       found m l b e = ⊎_elim
@@ -123,7 +125,7 @@ module _ (B : Btf) (T : Lists) (right : Right B T) where
     usual_number = go (eqb c 0) refl
       where
         some : (c ≡ 0 → ⊥) → 2 ≤ one_more c
-        some n = ⊎_elim (λ l. omega (arith, more_stuck c l)) (λ l. omega (arith, more_is c l)) (le_or_lt 4294967295 c)
+        some n = ⊎_elim (λ l. omega (arith, more_is c l)) (λ l. omega (arith, more_stuck c l)) (cases_lt c 4294967295)
 
         go : (b : Bool) → eqb c 0 ≡ b → elim b as (λ w. ℕ) [ true ↦ 1 | false ↦ passing t (length (taken B space u)) (one_more c) ] ≡ number_over (T space name) (one_more c)
         go true q = sym (ap (number_over (T space name)) (ap one_more (eqb-true c 0 q) ∙ more_first) ∙ first_is (T space name) (right.suffixes space name is_name))
@@ -155,7 +157,7 @@ module _ (B : Btf) (T : Lists) (right : Right B T) where
           go (inl e) =
               let z : holders (with_one u.names.ledger space name) space' name' ≡ one_more c = ap₂ (holders (with_one u.names.ledger space name)) (sym e.0) (sym e.1) ∙ count_here space name u.names.ledger in
               let y : holders u.names.ledger space' name' ≡ c = ap₂ (holders u.names.ledger) (sym e.0) (sym e.1) in
-              ⊎_elim (λ x. old (omega (arith, y))) (λ x. new e.0 e.1 (omega (arith, z, more_most c))) (le_or_lt j c)
+              ⊎_elim (λ x. new e.0 e.1 (omega (arith, z, more_most c))) (λ x. old (omega (arith, y))) (cases_lt c j)
           go (inr n) = old (omega (arith, count_there space name space' name' n u.names.ledger))
 
       pub usual_then : Usual (record { names = record { versions = versions; ledger = with_one u.names.ledger space name }; printed = one ∷ u.printed })

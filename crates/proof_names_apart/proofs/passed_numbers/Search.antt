@@ -8,17 +8,16 @@ use mathlib.Core.Logic.{◌⊎◌, inl, inr, ⊎_elim}
 use native.Mathlib.Omega.{arith}
 use native.Mathlib.Decide.{ℕ_discrete}
 use lib.ListN.{length}
+use Rattle.std.proofs.lemmas.Bool.{cases_lt}
 use Rattle.spec_bytes.specs.words.Words.{one_more}
-use Rattle.spec_bytes.proofs.words.Laws.{le_or_lt}
+use Rattle.spec_bytes.proofs.words.Laws.{more_is, more_stuck, more_most, more_least}
 use Rattle.spec_c_dumper.specs.rules.Types.{Name}
 use Rattle.spec_c_dumper.specs.rules.Names.{spelled}
 use Rattle.spec_c_dumper.specs.names_apart.Apart.{is_name_among, passing}
-use Rattle.proof_names_apart.proofs.names_apart.Laws.{bytes_other, cut_out, suffix_one, more_is}
-use Rattle.proof_names_apart.proofs.names_apart.Fair.{more_most, more_least}
-use Rattle.proof_names_apart.proofs.names_apart.Alike.{more_stuck}
+use Rattle.proof_names_apart.proofs.names_apart.Laws.{bytes_other, cut_out, suffix_one}
 
 pub more_limit : (n : ℕ) → n ≤ 4294967295 → one_more n ≤ 4294967295
-more_limit n h = ⊎_elim (λ l. omega (arith, more_stuck n l)) (λ l. omega (arith, more_is n l)) (le_or_lt 4294967295 n)
+more_limit n h = ⊎_elim (λ l. omega (arith, more_is n l)) (λ l. omega (arith, more_stuck n l)) (cases_lt n 4294967295)
 
 module _ (t : ℕ → Bool) where
   pub from : (most n : ℕ) → n ≤ passing t most n
@@ -59,7 +58,7 @@ pub stops : (name : Name) (most : ℕ) (t : ℕ → Bool) (l : List Name) → le
 unfolding passing is_name_among
 stops name zero t [] h n k b f = inl (f n (omega arith) b)
 stops name zero t (x ∷ l) h n k b f = absurd (omega arith)
-stops name (suc most) t l h n k b f = ⊎_elim (λ q. inr (omega (arith, from t (suc most) n))) (λ q. go (t n) refl (λ c e g. stops name most t c e (n + 1) (omega arith) (omega arith) g) q) (le_or_lt 4294967295 n)
+stops name (suc most) t l h n k b f = ⊎_elim (λ q. go (t n) refl (λ c e g. stops name most t c e (n + 1) (omega arith) (omega arith) g) q) (λ q. inr (omega (arith, from t (suc most) n))) (cases_lt n 4294967295)
   where
     go : (b' : Bool) → t n ≡ b'
         → ((c : List Name) → length c ≤ most → ((m : ℕ) → n + 1 ≤ m → m ≤ 4294967295 → t m ≡ is_name_among (spelled name m) c) → (t (passing t most (n + 1)) ≡ false) ⊎ (4294967295 ≤ passing t most (n + 1)))

@@ -9,14 +9,14 @@ use native.Mathlib.Decide.{ℕ_discrete}
 use lib.ListN.{get_or}
 use lib.Dec.{eqb}
 use borrow.Author.Tests.{eq-eqb, ne_eqb}
+use Rattle.std.proofs.lemmas.Bool.{cases_lt}
 use Rattle.spec_bytes.specs.text.Text.{ascii}
 use Rattle.spec_bytes.specs.text.Decimal.{decimal}
-use Rattle.spec_bytes.proofs.words.Laws.{le_or_lt}
 use Rattle.spec_bytes.proofs.text.DecimalLaws.{decimal_one, decimal_more}
 use Rattle.spec_bytes.proofs.text.Digits.{horner, AllDigits, Numeral, decimal_is}
 use Rattle.spec_c_dumper.specs.rules.Types.{Name}
 use Rattle.spec_c_dumper.specs.rules.Names.{spelled}
-use Rattle.proof_names_apart.proofs.names_apart.Laws.{spelled_later}
+use Rattle.spec_c_dumper.proofs.rules.Names.{spelled_later}
 use Rattle.btf_open_names.specs.filled_work.Takers.{digit_after, numeral_from, numeral, after_underscores, suffix_in, suffix_on}
 use Rattle.btf_open_names.proofs.filled_work.Bytes.{digit_low, digit_high, digit_past, digit_next}
 
@@ -52,21 +52,21 @@ reads (x ∷ d) acc a f h =
     more = go (ℕ_discrete acc 0)
       where
         go : Dec (acc ≡ 0) → 1 ≤ acc * 10 + (x - 48)
-        go (yes z) = ⊎_elim (λ l. absurd (f z (omega (arith, a.0)))) (λ l. omega arith) (le_or_lt x 48)
+        go (yes z) = ⊎_elim (λ l. omega arith) (λ l. absurd (f z (omega (arith, a.0)))) (cases_lt 48 x)
         go (no z) = omega arith
 
 -- what is read is spelled so
 digit_cases : (acc x : ℕ) → (digit_after acc x ≡ 0) ⊎ ((48 ≤ x) × (x ≤ 57) × (acc * 10 + (x - 48) ≤ 4294967295) × (digit_after acc x ≡ acc * 10 + (x - 48)))
 digit_cases acc x = ⊎_elim
-    (λ l. ⊎_elim
-    (λ m. ⊎_elim
-    (λ k. inr (l, m, k, sym (digit_next acc x (acc * 10 + (x - 48)) l m refl k)))
-    (λ k. inl (sym (digit_past acc x (acc * 10 + (x - 48)) l m refl k)))
-    (le_or_lt (acc * 10 + (x - 48)) 4294967295))
-    (λ m. inl (sym (digit_high acc x l m)))
-    (le_or_lt x 57))
     (λ l. inl (sym (digit_low acc x l)))
-    (le_or_lt 48 x)
+    (λ l. ⊎_elim
+    (λ m. inl (sym (digit_high acc x l m)))
+    (λ m. ⊎_elim
+    (λ k. inl (sym (digit_past acc x (acc * 10 + (x - 48)) l m refl k)))
+    (λ k. inr (l, m, k, sym (digit_next acc x (acc * 10 + (x - 48)) l m refl k)))
+    (cases_lt 4294967295 (acc * 10 + (x - 48))))
+    (cases_lt 57 x))
+    (cases_lt x 48)
 
 one_more : (acc x : ℕ) → 1 ≤ acc → 48 ≤ x → x ≤ 57 → acc * 10 + (x - 48) ≤ 4294967295 → decimal (acc * 10 + (x - 48)) ≡ decimal acc ++ (x ∷ [])
 one_more acc x o l m k =

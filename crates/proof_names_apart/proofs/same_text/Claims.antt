@@ -2,8 +2,9 @@
 use Prim.Native.Nat.{ℕ}
 use mathlib.Core.List.{List}
 use Rattle.spec_session.specs.calls.Lists.{list_call}
+use Rattle.proof_demands.proofs.demands.Demands.{after_sound}
 use Rattle.proof_names_apart.specs.same_text.Claims.{BothModes}
-use Rattle.proof_names_apart.proofs.same_text.Dumps.{after_sound, same_open, same_len, same_text_so_far, next_one, next_all}
+use Rattle.proof_names_apart.proofs.same_text.Dumps.{same_open, same_len, same_text_so_far, next_one, next_all}
 use Rattle.proof_names_apart.proofs.same_text.Lists.{list_alike}
 
 pub both_modes : (p modes old : ℕ) (s : List ℕ) (n : ℕ) → BothModes p modes old s n

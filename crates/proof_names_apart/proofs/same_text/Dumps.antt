@@ -20,10 +20,10 @@ use Rattle.spec_c_dumper.specs.needs.Session.{Known, Dump, dump, text_of, machin
 use Rattle.proof_demands.specs.name_counts.Passed.{Lists, passed}
 use Rattle.proof_demands.specs.name_counts.Indexed.{lists_in}
 use Rattle.proof_demands.specs.demands.Table.{header_of, opened_table, names_in, machine_in, opened_in}
-use Rattle.proof_demands.specs.demands.Session.{After, after_open, after_one, after_all, after_list, Tells}
+use Rattle.proof_demands.specs.demands.Session.{After, Tells}
 use Rattle.proof_demands.specs.demands.Demands.{Lent, types_in, ruled, Demand2}
 use Rattle.proof_demands.proofs.demands.Sound.{opened_wf}
-use Rattle.proof_demands.proofs.demands.Demands.{open_number, delivered}
+use Rattle.proof_demands.proofs.demands.Demands.{delivered}
 use Rattle.spec_c_dumper.specs.names_apart.Apart.{dump_apart}
 use Rattle.proof_names_apart.proofs.names_apart.Tables.{table_ends}
 use Rattle.proof_names_apart.proofs.passed_numbers.Passed.{lists_alike}
@@ -32,13 +32,6 @@ use Rattle.proof_names_apart.proofs.none_passed.Claims.{both_alike}
 use Rattle.proof_names_apart.proofs.none_passed.Probe.{told_once, past_number, passes_past}
 use Rattle.proof_names_apart.specs.same_text.Claims.{SameAnswer, OnlyNames, NonePassed}
 use Rattle.proof_names_apart.proofs.same_text.Table.{tables_same}
-
--- the opening that a list starts at was accepted
-pub after_sound : (p modes : ℕ) (s : List ℕ) (n : ℕ) {c : Call} {rs : List Req} → After p modes s n c rs → opening_number p s n ≡ 0
-after_sound p modes s n (after_open S work text z q) = ap (opening_number p s) (sym z) ∙ sym (open_number S s work text p modes) ∙ q
-after_sound p modes s n (after_one c rs a text f same id) = after_sound p modes s n a
-after_sound p modes s n (after_all c rs a text f same) = after_sound p modes s n a
-after_sound p modes s n (after_list c rs a text f same ids) = after_sound p modes s n a
 
 -- ---- what a dump says: the text, and the number of the last request
 pub text_in : Dump → List ℕ

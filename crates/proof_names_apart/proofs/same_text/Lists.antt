@@ -7,7 +7,7 @@ use mathlib.Core.Logic.{⊎_elim}
 use native.Mathlib.Omega.{arith}
 use lib.ListN.{length, take}
 use borrow.Author.Tests.{ne_eqb}
-use Rattle.spec_bytes.proofs.words.Laws.{le_or_lt}
+use Rattle.std.proofs.lemmas.Bool.{cases_lt}
 use Rattle.spec_c_dumper.specs.rules.Machine.{Req, one}
 use Rattle.spec_opening.specs.Causes.{opening_number}
 use Rattle.spec_session.specs.declared.session.Session.{Session}
@@ -35,7 +35,7 @@ module _ (p modes : ℕ) (s : List ℕ) (n : ℕ) (ok : opening_number p s n ≡
 
   not_11 : number_of (type_call c.session s c.work t x).answer ≡ 11 → ⊥
   unfolding number_of
-  not_11 e = ⊎_elim past below (le_or_lt c.session.types x)
+  not_11 e = ⊎_elim below past (cases_lt x c.session.types)
     where
       past : c.session.types ≤ x → ⊥
       past q = let z : number_of (type_call c.session s c.work t x).answer ≡ 10 = ap (λ (y : Call). number_of y.answer) (type_not_below c.session s c.work t x now q) in omega arith

@@ -7,8 +7,8 @@ use mathlib.Core.Logic.{⊎_elim}
 use native.Mathlib.Omega.{arith}
 use lib.ListN.{replicate}
 use lib.Dec.{eqb}
+use Rattle.std.proofs.lemmas.Bool.{cases_lt}
 use Rattle.spec_bytes.specs.words.Words.{get_word}
-use Rattle.spec_bytes.proofs.words.Laws.{le_or_lt}
 use Rattle.spec_type_table.specs.declared.types.TypeTable.{TypeTable}
 use Rattle.spec_type_table.specs.Cells.{get_field}
 use Rattle.spec_type_table.specs.Table.{btf_of}
@@ -52,10 +52,10 @@ module _ (modes : ℕ) (b : TypeTable) (e : ℕ) (s w : List ℕ) (some : 1 ≤ 
 
   place_kept : (j : ℕ) → get_field (takers_in modes b e s w) j 0 ≡ get_field w j 0
   place_kept j = ⊎_elim
+      (λ l. word (j * 16 + 0) (field_unlisted b.types (b.types + e) j 0 l (omega arith) (λ q. omega arith) (λ q. omega arith) (λ q. omega arith)))
       (λ l. let i : b.types * 16 + (j - b.types) * 2 * 8 ≡ j * 16 + 0 = omega arith in
       ap (get_word (takers_in modes b e s w)) (sym i) ∙ word (b.types * 16 + (j - b.types) * 2 * 8) (entry_unlisted b.types (b.types + e) ((j - b.types) * 2)) ∙ ap (get_word w) i)
-      (λ l. word (j * 16 + 0) (field_unlisted b.types (b.types + e) j 0 l (omega arith) (λ q. omega arith) (λ q. omega arith) (λ q. omega arith)))
-      (le_or_lt b.types j)
+      (cases_lt j b.types)
 
   pub unlisted_table : btf_of b s (takers_in modes b e s w) ≡ btf_of b s w
   unlisted_table = table_same (takers_in modes b e s w) w b s place_kept

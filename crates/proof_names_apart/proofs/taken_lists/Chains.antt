@@ -62,9 +62,6 @@ module _ (types e : ℕ) (base num : ℕ → ℕ) where
     abbrev w₂ : List ℕ
     w₂ = put_word w₁ (taken_p types h) m
 
-    abbrev w₃ : List ℕ
-    w₃ = put_word w₂ (head_p types c) h
-
     long₁ : length w₁ ≡ length w
     long₁ = put_length w (next_p types h) (get_word w (head_p types c))
 

@@ -5,11 +5,12 @@ use mathlib.Core.Path.{◌≡◌, refl, sym, ◌∙◌, ap, subst}
 use mathlib.Core.Bool.{Bool, true, false, not, true≢false}
 use mathlib.Core.List.{List, [], ◌∷◌, Memᴰ}
 use mathlib.Core.Logic.{◌⊎◌, inl, inr}
-use lib.ListN.{length, get_or, replicate, length-replicate}
+use lib.ListN.{length, get_or, length-replicate}
 use lib.Dec.{eqb}
 use borrow.Author.Tests.{eqb-true, eqb-false}
+use Rattle.std.proofs.lemmas.Bool.{cases_lt}
 use Rattle.spec_bytes.specs.words.Words.{get_word, table, words}
-use Rattle.spec_bytes.proofs.words.Laws.{le_or_lt}
+use Rattle.spec_bytes.proofs.words.Laws.{get_replicate}
 use Rattle.spec_linux_btf.specs.Documentation.{int, ptr, array, struct, union, enum, fwd, typedef, volatile, const, restrict, func, func_proto, var, datasec, float, decl_tag, type_tag, enum64, Described, described}
 use Rattle.spec_linux_btf.specs.Fields.{kind_in}
 use Rattle.spec_type_table.specs.declared.types.TypeTable.{TypeTable}
@@ -29,16 +30,11 @@ use Rattle.session_cut.proofs.numbering.Marks as marks
 use Rattle.session_cut.proofs.numbering.Marks.{table_to}
 use Rattle.session_cut.proofs.numbering.Numbers.{positive, Target, tag_not, tag_is, tag_on_lem, Tags, tags_are, marked, numbers_are}
 
-zero_at : (n i : ℕ) → get_or {A = ℕ} (replicate n 0) i 0 ≡ 0
-zero_at zero i = refl
-zero_at (suc n) zero = refl
-zero_at (suc n) (suc i) = zero_at n i
-
 all_zero_lem : (i : ℕ) → get_or all_zero i 0 ≡ 0
 unfolding all_zero
-all_zero_lem i = zero_at 262145 i
+all_zero_lem i = get_replicate {A = ℕ} 0 262145 i
 
-zero_long : length all_zero ≡ 262145
+pub zero_long : length all_zero ≡ 262145
 unfolding all_zero
 zero_long = length-replicate {A = ℕ} 262145 0
 
@@ -151,19 +147,19 @@ module _ (b : TypeTable) (s start : List ℕ) (ts : List Described) (see : SeenF
   -- kinds and DECL_TAGs of ids
   tag_of : (x : ℕ) → kind_at b start x ≡ 17 → (is_decl_tag (type_of ts x) ≡ true) × (Target b s start x ≡ third (type_of ts x)) × (x < type_count b)
   tag_of zero e = absurd (omega (arith, e, see.zero_kind))
-  tag_of (suc i) e = go (le_or_lt (type_count b) (suc i))
+  tag_of (suc i) e = go (cases_lt (suc i) (type_count b))
     where
-      go : (type_count b ≤ suc i) ⊎ (suc i < type_count b) → (is_decl_tag (get_or ts i void_type) ≡ true) × (Target b s start (suc i) ≡ third (get_or ts i void_type)) × (suc i < type_count b)
-      go (inl q) = absurd (omega (arith, e, kind_out b start (suc i) q))
-      go (inr q) = let k : i < length ts = omega (arith, q, see.count) in (kind_tag (get_or ts i void_type) (sym (see.kind i k) ∙ e), see.third_word i k, q)
+      go : (suc i < type_count b) ⊎ (type_count b ≤ suc i) → (is_decl_tag (get_or ts i void_type) ≡ true) × (Target b s start (suc i) ≡ third (get_or ts i void_type)) × (suc i < type_count b)
+      go (inl q) = let k : i < length ts = omega (arith, q, see.count) in (kind_tag (get_or ts i void_type) (sym (see.kind i k) ∙ e), see.third_word i k, q)
+      go (inr q) = absurd (omega (arith, e, kind_out b start (suc i) q))
 
   of_tag : (x : ℕ) → is_decl_tag (type_of ts x) ≡ true → kind_at b start x ≡ 17
   of_tag zero e = absurd (true≢false (sym e))
-  of_tag (suc i) e = go (le_or_lt (length ts) i)
+  of_tag (suc i) e = go (cases_lt i (length ts))
     where
-      go : (length ts ≤ i) ⊎ (i < length ts) → kind_at b start (suc i) ≡ 17
-      go (inl q) = absurd (true≢false (sym e ∙ ap is_decl_tag (past_type ts i q)))
-      go (inr q) = see.kind i q ∙ tag_kind (get_or ts i void_type) e
+      go : (i < length ts) ⊎ (length ts ≤ i) → kind_at b start (suc i) ≡ 17
+      go (inl q) = see.kind i q ∙ tag_kind (get_or ts i void_type) e
+      go (inr q) = absurd (true≢false (sym e ∙ ap is_decl_tag (past_type ts i q)))
 
   no_tag : (x : ℕ) → (kind_at b start x ≡ 17 → ⊥) → is_decl_tag (type_of ts x) ≡ false
   no_tag x n = go (is_decl_tag (type_of ts x)) refl

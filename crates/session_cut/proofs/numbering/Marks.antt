@@ -11,8 +11,8 @@ use lib.ListN.{length, get_or, set, length-set}
 use lib.Seq.{get_or-set_same, get_or-set_other}
 use lib.Dec.{ltb, eqb}
 use borrow.Author.Tests.{eqb-true, eqb-false, ltb-true, ltb-false}
+use Rattle.std.proofs.lemmas.Bool.{cases_lt}
 use Rattle.spec_bytes.specs.words.Words.{table}
-use Rattle.spec_bytes.proofs.words.Laws.{le_or_lt}
 use Rattle.spec_linux_btf.specs.Documentation.{Described}
 use Rattle.spec_type_table.specs.declared.types.TypeTable.{TypeTable}
 use Rattle.btf_open_causes.specs.references.Followed.{type_count, followed_count, followed_id}
@@ -289,11 +289,11 @@ module _ (ts : List Described) (gs : List ℕ) where
 
         in_table : (x y : ℕ) → Memᴰ y (followed_ids (type_of ts x)) → Markable x
         in_table zero y k = absurd (Memᴰ.not-nil k)
-        in_table (suc i) y k = (omega arith, go (le_or_lt (type_count b) (suc i)))
+        in_table (suc i) y k = (omega arith, go (cases_lt (suc i) (type_count b)))
           where
             w : (j : ℕ) × (j < followed_count b s start (suc i)) × (followed_id b s start (suc i) j ≡ y)
             w = see.from (suc i) y k
 
-            go : (type_count b ≤ suc i) ⊎ (suc i < type_count b) → suc i < 262145
-            go (inl q) = absurd (omega (arith, w.1, followed_none b s start (suc i) q))
-            go (inr q) = omega (arith, q, count_fits b)
+            go : (suc i < type_count b) ⊎ (type_count b ≤ suc i) → suc i < 262145
+            go (inl q) = omega (arith, q, count_fits b)
+            go (inr q) = absurd (omega (arith, w.1, followed_none b s start (suc i) q))

@@ -5,35 +5,29 @@ use native.Mathlib.Decide.{ℕ_discrete}
 use mathlib.Core.Path.{◌≡◌, refl, sym, ◌∙◌, ap, subst}
 use mathlib.Core.Bool.{Bool, true, false, true≢false}
 use mathlib.Core.List.{List, [], ◌∷◌, ◌++◌, append_assoc}
-use lib.ListN.{length, get_or, length-append, length-set, length-replicate}
+use lib.ListN.{length, get_or, length-append, length-set}
 use lib.Seq.{get_or-set_same, get_or-set_other}
 use lib.Dec.{eqb}
 use Rattle.spec_linux_btf.specs.Documentation.{encode_strings}
 use Rattle.spec_c_dumper.specs.rules.Types.{Name, is_empty}
 use Rattle.spec_c_dumper.specs.rules.Names.{same_bytes}
+use Rattle.spec_c_dumper.proofs.rules.Names.{bytes_same}
 use Rattle.spec_type_table.specs.declared.types.TypeTable.{TypeTable}
 use Rattle.spec_type_table.specs.Names.{str_at}
 use Rattle.btf_open_causes.specs.references.Followed.{type_count, entry_at}
 use Rattle.spec_cut.specs.section.Strings.{has, add_name, first_names, place_in}
-use Rattle.spec_cut.proofs.section.Names.{same_bytes_lem, place_below}
+use Rattle.spec_cut.proofs.section.Names.{place_below, add_has}
 use Rattle.session_cut_marks.specs.roles.Words.{role, words_in, word_of}
 use Rattle.session_cut_marks.specs.mentioned.Names.{zero_bases, is_name, or_name, named_to, first_from, mentions, or_mentions, mentioned_to, is_new, new_size, new_sizes, base_of, bases_to, place_at, place_from, place_of}
 use Rattle.session_cut_marks.specs.mentioned.Strings.{name_bytes, names_bytes, strings_bytes}
 use Rattle.session_cut_marks.proofs.mentioned.Sizes.{strings_length}
+use Rattle.session_cut_marks.proofs.interned.Places.{zero_bases_lem}
 use Rattle.session_cut.specs.stored.Mentioned.{store, stored, or_else, word_name, names_to, kept_names, names_before}
-use Rattle.session_cut.proofs.stored.Store.{store_append, has_added, has_stored, place_empty, add_new, place_last, place_store, keeps_store}
+use Rattle.session_cut.proofs.stored.Store.{store_append, has_stored, place_empty, add_new, place_last, place_store, keeps_store, or_true}
 use Rattle.session_cut.proofs.stored.Strings.{mentioned_is, before, stored_has, names_bytes_lem, strings_are}
 
 word_small : (p : ℕ) → p < 4294967296 → p % 4294967296 ≡ p
 word_small p l = omega (arith, l)
-
-zero_bases_lem : length zero_bases ≡ 262145
-unfolding zero_bases
-zero_bases_lem = length-replicate {A = ℕ} 262145 0
-
-or_true : (q : Bool) → or_else q true ≡ true
-or_true true = refl
-or_true false = refl
 
 one : (l : List Name) (n : Name) → store l (n ∷ []) ≡ add_name l n
 unfolding store
@@ -69,7 +63,7 @@ module _ (b : TypeTable) (s : List ℕ) where
     where
       go : (q : Bool) → ◌≡◌ {A = Bool} (elim q [ true ↦ same_bytes (str_at b s (word_of b s e r)) (str_at b s off) | false ↦ false ]) true
           → ◌≡◌ {A = List Name} (elim q [ true ↦ str_at b s (word_of b s e r) ∷ [] | false ↦ [] ]) (str_at b s off ∷ [])
-      go true g = ap (λ (n : Name). n ∷ []) (same_bytes_lem (str_at b s (word_of b s e r)) (str_at b s off) g)
+      go true g = ap (λ (n : Name). n ∷ []) (bytes_same (str_at b s (word_of b s e r)) (str_at b s off) g)
       go false g = absurd (true≢false (sym g))
 
   module _ (start ids : List ℕ) where
@@ -135,7 +129,7 @@ module _ (b : TypeTable) (s : List ℕ) where
         }
           where
             has_new : has (ss ++ (N ∷ [])) N ≡ true
-            has_new = ap (λ (l : List Name). has l N) (sym (add_new ss N new)) ∙ has_added ss N
+            has_new = ap (λ (l : List Name). has l N) (sym (add_new ss N new)) ∙ add_has ss N
 
     -- further words of the record
     stands_more : (x e off r d at : ℕ) → Stands (str_at b s off) (before b s start ids x e r) at → Stands (str_at b s off) (before b s start ids x e (r + d)) at

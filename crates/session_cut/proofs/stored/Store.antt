@@ -8,8 +8,8 @@ use lib.ListN.{length, length-append}
 use Rattle.spec_linux_btf.specs.Documentation.{encode_strings}
 use Rattle.spec_c_dumper.specs.rules.Types.{Name, is_empty}
 use Rattle.spec_c_dumper.specs.rules.Names.{same_bytes}
+use Rattle.spec_c_dumper.proofs.rules.Names.{bytes_self, bytes_same}
 use Rattle.spec_cut.specs.section.Strings.{has, add_name, first_names, place_in}
-use Rattle.spec_cut.proofs.section.Names.{same_bytes_lem, bytes_same}
 use Rattle.session_cut.specs.stored.Mentioned.{store, stored, or_else}
 
 pub store_append : (ss a c : List Name) → store ss (a ++ c) ≡ store (store ss a) c
@@ -38,7 +38,7 @@ has_one x n = or_false (same_bytes x n)
 
 -- a stored name that is the same is that name
 has_same : (ss : List Name) (x n : Name) → has ss x ≡ true → same_bytes x n ≡ true → has ss n ≡ true
-has_same ss x n h e = ap (has ss) (sym (same_bytes_lem x n e)) ∙ h
+has_same ss x n h e = ap (has ss) (sym (bytes_same x n e)) ∙ h
 
 has_add : (ss : List Name) (x n : Name) → has (add_name ss x) n ≡ or_else (has ss n) (same_bytes x n)
 unfolding add_name
@@ -110,7 +110,7 @@ place_before (s ∷ ss) t n e = go (same_bytes s n) e (place_before ss t n)
 
 pub place_last : (ss : List Name) (n : Name) → has ss n ≡ false → place_in (ss ++ (n ∷ [])) n ≡ length (encode_strings ss)
 unfolding has place_in encode_strings
-place_last [] n e = ap (λ (q : Bool). elim q as (λ z. ℕ) [ true ↦ 0 | false ↦ suc (length n) + 0 ]) (bytes_same n)
+place_last [] n e = ap (λ (q : Bool). elim q as (λ z. ℕ) [ true ↦ 0 | false ↦ suc (length n) + 0 ]) (bytes_self n)
 place_last (s ∷ ss) n e = go (same_bytes s n) e (place_last ss n)
   where
     len : length (s ++ (0 ∷ encode_strings ss)) ≡ length s + suc (length (encode_strings ss))
@@ -137,12 +137,9 @@ place_store ss (x ∷ ns) n e = place_store (add_name ss x) ns n (has_add ss x n
 pub keeps_store : (ss ns : List Name) (n : Name) → has ss n ≡ true → has (store ss ns) n ≡ true
 keeps_store ss ns n e = has_store ss ns n ∙ ap (λ (t : Bool). or_else t (has ns n)) e
 
-or_true : (q : Bool) → or_else q true ≡ true
+pub or_true : (q : Bool) → or_else q true ≡ true
 or_true true = refl
 or_true false = refl
-
-pub has_added : (ss : List Name) (n : Name) → has (add_name ss n) n ≡ true
-has_added ss n = has_add ss n n ∙ ap (or_else (has ss n)) (bytes_same n) ∙ or_true (has ss n)
 
 -- the empty name stands first
 first_place : (ss : List Name) (n : Name) → is_empty n ≡ true → place_in (first_names ++ ss) n ≡ 0

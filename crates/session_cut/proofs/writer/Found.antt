@@ -1,12 +1,12 @@
 -- The first type that has a place for a name: what a search over all types answers. Assumes nothing.
 use Prim.Native.Nat.{ℕ, zero, suc, ◌+◌, ◌-◌, ◌<◌}
 use native.Mathlib.Omega.{arith}
-use mathlib.Core.Path.{◌≡◌, refl, sym, ◌∙◌, ap, subst}
+use mathlib.Core.Path.{◌≡◌, refl, sym, ◌∙◌, ap}
 use mathlib.Core.Bool.{true}
 use mathlib.Core.List.{List}
 use denote.Param.Members.{Mut}
 use Rattle.std.specs.Fn.{Called}
-use Rattle.std.specs.Option.{option_map, MatchOption, IfSome, IsSomeAnd}
+use Rattle.std.specs.Option.{MatchOption}
 use Rattle.std.specs.Iterator.Runs.{Run, SomeRun, AllItemsGive, IsFirstToGive}
 use Rattle.std.proofs.iter.Yields.{nat_range_steps}
 use Rattle.std.proofs.iter.runs.Sources.{range_runs}
@@ -14,18 +14,7 @@ use Rattle.std.proofs.Common.{Option, Some, None}
 use Rattle.spec_type_table.specs.declared.types.TypeTable.{TypeTable}
 use Rattle.session_cut_marks.specs.tags.Tags.{some_number}
 use Rattle.session_cut_marks.specs.mentioned.Names.{place_at, place_from}
-
-none_some : {p : ℕ} → None ≡ Some p → ⊥
-none_some h = cc
-
--- the item at place k of a run over a range
-item_if : (o : Option ℕ) (P : ℕ → Type 0) (n e : ℕ) → IfSome o (λ x. (x ≡ n) × (x < e)) → option_map (λ y. y) o ≡ Some n → IfSome o P → P n
-item_if None P n e w l h = absurd (none_some l)
-item_if (Some x) P n e w l h = subst P w.0 h
-
-item_of : (o : Option ℕ) (P : ℕ → Type 0) (n e : ℕ) → IfSome o (λ x. (x ≡ n) × (x < e)) → IsSomeAnd o P → P n × (n < e)
-item_of None P n e w h = absurd h
-item_of (Some x) P n e w h = (subst P w.0 h, subst (λ m. m < e) w.0 w.1)
+use Rattle.btf_open_causes.proofs.references.First.{item_if, item_of, none_some}
 
 skip : (v w : ℕ) → None ≡ some_number v → w ≡ (elim v as (λ z. ℕ) [ zero ↦ w | suc p ↦ suc p ])
 unfolding some_number

@@ -5,7 +5,8 @@ use native.Mathlib.Numerals.{add-one}
 use native.Mathlib.Decide.{ℕ_discrete}
 use mathlib.Core.Path.{◌≡◌, refl, sym, ◌∙◌, ap, subst}
 use Rattle.std.specs.Int.{to_be_bytes, to_le_bytes}
-use Rattle.std.specs.Prelude.{Ok}
+use Rattle.std.specs.Prelude.{Ok, map}
+use Rattle.std.specs.List.{range_with_len, sum, fold}
 use mathlib.Core.Bool.{Bool, true, false}
 use Rattle.std.proofs.Common.{Option, Some, None, unwrap_or}
 use mathlib.Core.List.{List, [], ◌∷◌, ◌++◌}
@@ -20,6 +21,7 @@ use Rattle.spec_c_dumper.specs.rules.Types.{is_empty}
 use Rattle.spec_type_table.specs.declared.types.TypeTable.{TypeTable}
 use Rattle.spec_type_table.specs.Names.{str_at}
 use Rattle.btf_open_causes.specs.references.Followed.{type_count, entry_at}
+use Rattle.btf_open_causes.proofs.references.First.{none_some}
 use Rattle.session_cut_marks.specs.tags.Tags.{some_number}
 use Rattle.session_cut_marks.specs.roles.Words.{role, words_in, word_of}
 use Rattle.session_cut_marks.proofs.roles.Laws.{words_few}
@@ -34,9 +36,6 @@ use Rattle.session_cut_marks.proofs.interned.Places.{base_up}
 use Rattle.session_cut_marks.proofs.interned.Found.{found_place, first_is, new_place}
 use Rattle.session_cut.specs.writer.Bytes.{word_bytes, magic_bytes, head_bytes, type_size, types_size, new_word, types_bytes, all_bytes, sought, Wrote, wrote_of, fitting_written, kept_written}
 use Rattle.session_cut.proofs.writer.Sizes.{head_length, types_length}
-
-none_some : {p : ℕ} → None ≡ Some p → ⊥
-none_some h = cc
 
 slot_full : (v p : ℕ) → slot_place v ≡ Some p → v ≡ 0 → ⊥
 unfolding slot_place
@@ -200,9 +199,6 @@ module _ (b : TypeTable) (s : List ℕ) where
             w ∙ rw (sym g ∙ z, place_of)
 
       -- ---- words as they are written
-      pub at_word : (off w : ℕ) → off ≡ w → (r : ℕ) → r ≡ place_of b s start ids bases w → r ≡ place_of b s start ids bases off
-      at_word off w f r h = h ∙ ap (place_of b s start ids bases) (sym f)
-
       module _ (e j v w : ℕ) (k : v ≡ role (e % 32) j) (f : w ≡ word_of b s e j) where
         pub word_name_lem : v ≡ 1 → (r : ℕ) → r ≡ place_of b s start ids bases w → r ≡ new_word b s start ids bases e j
         unfolding new_word
@@ -218,14 +214,14 @@ module _ (b : TypeTable) (s : List ℕ) where
           word_plain z = f ∙ rw (ne_eqb (role (e % 32) j) 1 (λ u. n (k ∙ u)), new_word, ne_eqb (role (e % 32) j) 2 (λ u. z (k ∙ u)))
 
     -- ---- the length of the types
-    module _ (x len v : ℕ) (k : v ≡ get_or ids x 0) where
-      pub tsize_none : v ≡ 0 → len ≡ type_size b s start ids x len
+    module _ (x v : ℕ) (k : v ≡ get_or ids x 0) where
+      pub tsize_none : v ≡ 0 → 0 ≡ type_size b s start ids x 0
       unfolding type_size
       tsize_none z = rw (eq-eqb (get_or ids x 0) 0 (sym k ∙ z), type_size)
 
-      pub tsize_is : (v ≡ 0 → ⊥) → (e : ℕ) → e ≡ entry_at b start x → (w : ℕ) → w ≡ words_in b s e → len + w * 4 ≡ type_size b s start ids x len
+      pub tsize_is : (v ≡ 0 → ⊥) → (e : ℕ) → e ≡ entry_at b start x → (w : ℕ) → w ≡ words_in b s e → w * 4 ≡ type_size b s start ids x 0
       unfolding type_size
-      tsize_is z e f w g = ap (λ (u : ℕ). len + u * 4) (g ∙ ap (words_in b s) f) ∙ rw (ne_eqb (get_or ids x 0) 0 (λ u. z (k ∙ u)), type_size)
+      tsize_is z e f w g = let n : w * 4 ≡ 0 + w * 4 = omega arith in n ∙ ap (λ (u : ℕ). 0 + u * 4) (g ∙ ap (words_in b s) f) ∙ rw (ne_eqb (get_or ids x 0) 0 (λ u. z (k ∙ u)), type_size)
 
     tsize_few : (x len : ℕ) → type_size b s start ids x len ≤ len + 2359296
     unfolding type_size
@@ -235,19 +231,36 @@ module _ (b : TypeTable) (s : List ℕ) where
         go true = omega arith
         go false = omega (arith, words_few b s (entry_at b start x))
 
-    pub tsize_up : (x len r : ℕ) → r ≡ type_size b s start ids x len → r ≤ len + 2359296
-    tsize_up x len r h = omega (arith, h, tsize_few x len)
+    pub tsize_most : (x r : ℕ) → r ≡ type_size b s start ids x 0 → r ≤ 2359296
+    tsize_most x r h = omega (arith, h, tsize_few x 0)
 
-    pub no_size : 0 ≡ types_size b s start ids 0
+    tsize_adds : (x len : ℕ) → type_size b s start ids x 0 + len ≡ type_size b s start ids x len
+    unfolding type_size
+    tsize_adds x len = go (eqb (get_or ids x 0) 0)
+      where
+        go : (q : Bool) → (elim q as (λ z. ℕ) [ true ↦ 0 | false ↦ 0 + words_in b s (entry_at b start x) * 4 ]) + len
+            ≡ elim q as (λ z. ℕ) [ true ↦ len | false ↦ len + words_in b s (entry_at b start x) * 4 ]
+        go true = omega arith
+        go false = omega arith
+
+    next_size : (x : ℕ) → type_size b s start ids x (types_size b s start ids x) ≡ types_size b s start ids (x + 1)
     unfolding types_size
-    no_size = refl
+    next_size x = rw add-one refl
 
-    pub more_size : (x len r : ℕ) → len ≡ types_size b s start ids x → r ≡ type_size b s start ids x len → r ≡ types_size b s start ids (x + 1)
+    -- the types from k on, added to those before
+    sizes_on : (k n len : ℕ) → len ≡ types_size b s start ids k → fold (λ a x. a + x) len (map (λ (x : ℕ). type_size b s start ids x 0) (range_with_len k n)) ≡ types_size b s start ids (k + n)
+    sizes_on k zero len e = let z : k ≡ k + 0 = omega arith in e ∙ ap (types_size b s start ids) z
+    sizes_on k (suc n) len e =
+        let f : len + type_size b s start ids k 0 ≡ types_size b s start ids (k + 1) = omega (arith, e, tsize_adds k (types_size b s start ids k), next_size k) in
+        let z : k + 1 + n ≡ k + suc n = omega arith in
+        sizes_on (k + 1) n (len + type_size b s start ids k 0) f ∙ ap (types_size b s start ids) z
+
+    none_size : 0 ≡ types_size b s start ids 0
     unfolding types_size
-    more_size x len r h g = rw add-one (g ∙ ap (type_size b s start ids x) h)
+    none_size = refl
 
-    pub all_size : (n x len : ℕ) → n ≡ type_count b → x ≤ n → n ≤ x → len ≡ types_size b s start ids x → len ≡ types_size b s start ids (type_count b)
-    all_size n x len c l g h = let z : x ≡ n = omega (arith, l, g) in h ∙ ap (types_size b s start ids) (z ∙ c)
+    pub sizes_are : (n : ℕ) → n ≡ type_count b → sum (map (λ (x : ℕ). type_size b s start ids x 0) (range_with_len 0 n)) ≡ types_size b s start ids (type_count b)
+    sizes_are n c = let z : 0 + n ≡ n = omega arith in sizes_on 0 n 0 none_size ∙ ap (types_size b s start ids) (z ∙ c)
 
 -- ---- a word and the header
 be_is : (v : ℕ) → v < 4294967296 → to_be_bytes w32 v ≡ v / 16777216 ∷ v / 65536 % 256 ∷ v / 256 % 256 ∷ v % 256 ∷ []

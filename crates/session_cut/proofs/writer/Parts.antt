@@ -1,9 +1,8 @@
 -- Laws of what is written for each kept type, in either part of the new section. Assumes nothing.
-use Prim.Native.Nat.{ℕ, suc, ◌+◌, ◌<◌, ◌≤◌}
+use Prim.Native.Nat.{ℕ, suc, ◌+◌, ◌<◌}
 use native.Mathlib.Omega.{arith}
 use native.Mathlib.Numerals.{add-one}
 use mathlib.Core.Path.{◌≡◌, refl, sym, ◌∙◌, ap}
-use mathlib.Core.Bool.{Bool}
 use mathlib.Core.List.{List, [], ◌++◌}
 use lib.ListN.{get_or}
 use borrow.Author.Tests.{eq-eqb, ne_eqb}
@@ -15,13 +14,11 @@ use Rattle.spec_bytes.proofs.text.TextLaws.{put_seq, put_empty}
 use Rattle.spec_type_table.specs.declared.types.TypeTable.{TypeTable}
 use Rattle.btf_open_causes.specs.references.Followed.{type_count, entry_at}
 use Rattle.session_cut_marks.specs.roles.Words.{words_in}
-use Rattle.session_cut_marks.specs.mentioned.Names.{is_new}
-use Rattle.session_cut_marks.specs.mentioned.Strings.{names_bytes, own_bytes, news_bytes}
+use Rattle.session_cut_marks.specs.mentioned.Strings.{name_bytes, names_bytes, own_bytes, news_bytes}
 use Rattle.session_cut.specs.declared.writer.source.Part.{Part}
 use Rattle.session_cut.specs.declared.writer.source.Part.TheVariants.{Records, Names}
-use Rattle.session_cut.specs.writer.Bytes.{word_bytes, new_word, record_bytes, word_part, words_part, type_bytes, types_bytes, kept_bytes, part_bytes, name_if}
+use Rattle.session_cut.specs.writer.Bytes.{word_bytes, new_word, record_bytes, word_part, words_part, type_bytes, types_bytes, kept_bytes, part_bytes}
 use Rattle.session_cut.proofs.writer.Stops.{loop_stops}
-use Rattle.session_cut.proofs.writer.Strings.{name_if_lem}
 
 module _ (b : TypeTable) (s start ids bases : List ℕ) where
   module _ (x v : ℕ) (k : v ≡ get_or ids x 0) where
@@ -63,30 +60,23 @@ module _ (b : TypeTable) (s start ids bases : List ℕ) where
     unfolding word_part
     word_of_records v g r u h p = rw (p, word_part) (h ∙ ap (λ (z : ℕ). put_text t at (whole (word_bytes b.big_endian z))) g)
 
-    pub word_of_names : (new : Bool) → new ≡ is_new b s start ids x e j → (r : Placed) (u : List ℕ) → put_out r u ≡ put_text t at (whole (name_if b s e j new))
-        → {part : Part} → part ≡ Names → put_out r u ≡ put_text t at (whole (word_part b s start ids bases part x e j))
+    pub word_of_names : (r : Placed) (u : List ℕ) → put_out r u ≡ put_text t at (whole (name_bytes b s start ids x e j)) → {part : Part} → part ≡ Names → put_out r u ≡ put_text t at (whole (word_part b s start ids bases part x e j))
     unfolding word_part
-    word_of_names new g r u h p = rw (p, word_part) (h ∙ ap (λ (l : List ℕ). put_text t at (whole l)) (name_if_lem b s start ids x e j new g))
+    word_of_names r u h p = rw (p, word_part) h
 
   module _ (part : Part) (x e : ℕ) (t : List ℕ) (at : Placed) where
     pub no_words : put_out at t ≡ put_text t at (whole (words_part b s start ids bases part x e 0))
     no_words = put_empty t at ∙ ap (λ (l : List ℕ). put_text t at (whole l)) (sym (words_start part x e))
 
-    pub more_words : (j i : ℕ) (p : Placed) (u : List ℕ) (r : Placed) (u' : List ℕ) → i ≡ j → put_out p u ≡ put_text t at (whole (words_part b s start ids bases part x e j))
-        → put_out r u' ≡ put_text u p (whole (word_part b s start ids bases part x e i)) → put_out r u' ≡ put_text t at (whole (words_part b s start ids bases part x e (j + 1)))
-    more_words j i p u r u' w h g =
-        rw add-one
-        (put_seq t at (words_part b s start ids bases part x e j) (word_part b s start ids bases part x e j) p u r u' h (g ∙ ap (λ (q : ℕ). put_text u p (whole (word_part b s start ids bases part x e q))) w)
-        ∙ ap (λ (l : List ℕ). put_text t at (whole l)) (words_step part x e j))
+    pub more_words : (j : ℕ) (p : Placed) (u : List ℕ) (r : Placed) (u' : List ℕ) → put_out p u ≡ put_text t at (whole (words_part b s start ids bases part x e j))
+        → put_out r u' ≡ put_text u p (whole (word_part b s start ids bases part x e j)) → put_out r u' ≡ put_text t at (whole (words_part b s start ids bases part x e (j + 1)))
+    more_words j p u r u' h g =
+        rw add-one (put_seq t at (words_part b s start ids bases part x e j) (word_part b s start ids bases part x e j) p u r u' h g ∙ ap (λ (l : List ℕ). put_text t at (whole l)) (words_step part x e j))
 
     pub words_stop : (n j : ℕ) (u : List ℕ) (c : Refusal) → n ≡ words_in b s e → j < n → put_out (Err c) u ≡ put_text t at (whole (words_part b s start ids bases part x e (j + 1)))
         → (r : Placed) → IsErrAnd r (λ d. d ≡ c) → put_out r u ≡ put_text t at (whole (words_part b s start ids bases part x e (words_in b s e)))
     words_stop n j u c w l h r k =
         loop_stops (words_part b s start ids bases part x e) (word_part b s start ids bases part x e) (words_step part x e) t at c u (j + 1) (words_in b s e) (omega (arith, w, l)) h r k
-
-    pub all_words : (n j : ℕ) (p : Placed) (u : List ℕ) → n ≡ words_in b s e → j ≤ n → n ≤ j → put_out p u ≡ put_text t at (whole (words_part b s start ids bases part x e j))
-        → put_out p u ≡ put_text t at (whole (words_part b s start ids bases part x e (words_in b s e)))
-    all_words n j p u c l g h = let z : j ≡ n = omega (arith, l, g) in h ∙ ap (λ (k : ℕ). put_text t at (whole (words_part b s start ids bases part x e k))) (z ∙ c)
 
   -- ---- all types
   start_of : (part : Part) → part_bytes b s start ids bases part 0 ≡ []
@@ -112,7 +102,3 @@ module _ (b : TypeTable) (s start ids bases : List ℕ) where
     pub part_stop : (n x : ℕ) (u : List ℕ) (c : Refusal) → n ≡ type_count b → x < n → put_out (Err c) u ≡ put_text t at (whole (part_bytes b s start ids bases part (x + 1)))
         → (r : Placed) → IsErrAnd r (λ d. d ≡ c) → put_out r u ≡ put_text t at (whole (part_bytes b s start ids bases part (type_count b)))
     part_stop n x u c w l h r k = loop_stops (part_bytes b s start ids bases part) (kept_bytes b s start ids bases part) (step_of part) t at c u (x + 1) (type_count b) (omega (arith, w, l)) h r k
-
-    pub all_part : (n x : ℕ) (p : Placed) (u : List ℕ) → n ≡ type_count b → x ≤ n → n ≤ x → put_out p u ≡ put_text t at (whole (part_bytes b s start ids bases part x))
-        → put_out p u ≡ put_text t at (whole (part_bytes b s start ids bases part (type_count b)))
-    all_part n x p u c l g h = let z : x ≡ n = omega (arith, l, g) in h ∙ ap (λ (k : ℕ). put_text t at (whole (part_bytes b s start ids bases part k))) (z ∙ c)

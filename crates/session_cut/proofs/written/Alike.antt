@@ -9,10 +9,10 @@ use lib.ListN.{length, length-append}
 use Rattle.spec_linux_btf.specs.Documentation.{in_bytes, size_of, btf_header, btf_version, Described, encode, encode_all, header, encode_header}
 use Rattle.spec_c_dumper.specs.rules.Types.{Name}
 use Rattle.spec_c_dumper.specs.rules.Names.{same_bytes}
+use Rattle.spec_c_dumper.proofs.rules.Names.{bytes_self}
 use Rattle.spec_type_table.specs.Names.{name_at}
 use Rattle.spec_cut.specs.section.Renumbered.{renamed, renamed_all}
 use Rattle.spec_cut.specs.section.Strings.{mentions, all_mentions, has, add_name, add_all}
-use Rattle.spec_cut.proofs.section.Names.{bytes_same}
 use Rattle.session_cut.specs.writer.Bytes.{magic_bytes, head_bytes}
 use Rattle.session_cut.specs.items.Items.{Item, nm, tid, raw, flat, name_item, items}
 use Rattle.session_cut.proofs.items.Described.{put, encode_items, mentions_items}
@@ -20,15 +20,6 @@ use Rattle.session_cut.specs.stored.Mentioned.{store, or_else}
 use Rattle.session_cut.proofs.written.Record.{word_bytes_lem}
 
 -- ---- parts of a list
-
-mem_left : (xs ys : List ℕ) (n : ℕ) → Memᴰ n xs → Memᴰ n (xs ++ ys)
-mem_left [] ys n k = absurd (Memᴰ.not-nil k)
-mem_left (x ∷ xs) ys n (Memᴰ.head e) = Memᴰ.head e
-mem_left (x ∷ xs) ys n (Memᴰ.tail k) = Memᴰ.tail (mem_left xs ys n k)
-
-mem_right : (xs ys : List ℕ) (n : ℕ) → Memᴰ n ys → Memᴰ n (xs ++ ys)
-mem_right [] ys n k = k
-mem_right (x ∷ xs) ys n k = Memᴰ.tail (mem_right xs ys n k)
 
 -- ---- renamed types
 
@@ -59,7 +50,7 @@ module _ (big : Bool) (i o i' o' : ℕ → ℕ) where
     pub types_alike : (ts : List Described) → ((n : ℕ) → Memᴰ n (all_mentions ts) → o n ≡ o' n) → encode_all big (renamed_all i o ts) ≡ encode_all big (renamed_all i' o' ts)
     unfolding encode_all all_mentions
     types_alike [] h = refl
-    types_alike (t ∷ ts) h = λ j. type_alike t (λ n k. h n (mem_left (mentions t) (all_mentions ts) n k)) j ++ types_alike ts (λ n k. h n (mem_right (mentions t) (all_mentions ts) n k)) j
+    types_alike (t ∷ ts) h = λ j. type_alike t (λ n k. h n (Memᴰ.append_left (all_mentions ts) k)) j ++ types_alike ts (λ n k. h n (Memᴰ.append_right (mentions t) k)) j
 
 -- ---- names
 
@@ -72,7 +63,7 @@ store_all f old ss (n ∷ ns) h = ap (λ (x : Name). store (add_name ss x) (map 
 pub mem_has : (f : ℕ → Name) (ns : List ℕ) (n : ℕ) → Memᴰ n ns → has (map f ns) (f n) ≡ true
 unfolding has
 mem_has f [] n k = absurd (Memᴰ.not-nil k)
-mem_has f (x ∷ ns) n (Memᴰ.head e) = ap (λ (q : Bool). or_else q (has (map f ns) (f n))) (ap (λ (v : ℕ). same_bytes (f x) (f v)) e ∙ bytes_same (f x))
+mem_has f (x ∷ ns) n (Memᴰ.head e) = ap (λ (q : Bool). or_else q (has (map f ns) (f n))) (ap (λ (v : ℕ). same_bytes (f x) (f v)) e ∙ bytes_self (f x))
 mem_has f (x ∷ ns) n (Memᴰ.tail k) = go (same_bytes (f x) (f n)) (mem_has f ns n k)
   where
     go : (q : Bool) → has (map f ns) (f n) ≡ true → or_else q (has (map f ns) (f n)) ≡ true

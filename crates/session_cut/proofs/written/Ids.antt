@@ -6,12 +6,12 @@ use mathlib.Core.Bool.{Bool, true, false, not, ◌||◌, true≢false}
 use mathlib.Core.List.Memᴰ
 use mathlib.Core.List.{List, [], ◌∷◌, Memᴰ}
 use mathlib.Core.Logic.{◌⊎◌, inl, inr}
-use lib.ListN.{length, get_or, set, length-set, length-replicate}
+use lib.ListN.{length, get_or, set, length-set}
 use lib.Dec.{ltb, eqb}
 use borrow.Author.Tests.{ltb-true}
+use Rattle.std.proofs.lemmas.Bool.{cases_lt}
 use Rattle.std.proofs.lemmas.List.{get_or_past}
 use Rattle.spec_bytes.specs.words.Words.{words}
-use Rattle.spec_bytes.proofs.words.Laws.{le_or_lt}
 use Rattle.spec_linux_btf.specs.Documentation.{Described}
 use Rattle.spec_type_table.specs.declared.types.TypeTable.{TypeTable}
 use Rattle.btf_open_causes.specs.references.Followed.{type_count, followed_count, followed_id}
@@ -25,7 +25,7 @@ use Rattle.spec_cut.proofs.section.Claims.{GoodReferences}
 use Rattle.spec_cut.specs.reopened.Seen.{SeenFrom}
 use Rattle.session_cut_marks.specs.tags.Tags.{tag_on, tagged_at, tagged_to, Numbered, numbered, numbers_in, numbered_at, numbered_to, numbers_of}
 use Rattle.session_cut_marks.specs.marks.Marks.{Heap, heap, marks_in, pushed, pushed_to, weight, turned, closed, all_zero, asked as first, reached_marks, ids_of}
-use Rattle.session_cut.proofs.numbering.Claims.{ids_are}
+use Rattle.session_cut.proofs.numbering.Claims.{ids_are, zero_long}
 
 -- ---- the list keeps its length
 
@@ -85,10 +85,6 @@ unfolding numbered_to
 numbered_long h zero = refl
 numbered_long h (suc n) = numbered_one (numbered_to h n) n ∙ numbered_long h n
 
-zero_long : length all_zero ≡ 262145
-unfolding all_zero
-zero_long = length-replicate {A = ℕ} 262145 0
-
 numbers_long : (l : List ℕ) → length (numbers_of l) ≡ length l
 unfolding numbers_of
 numbers_long l = numbered_long (numbered l 0) 262145
@@ -121,11 +117,11 @@ module _ (ts : List Described) (few : length ts ≤ 262144) (good : GoodReferenc
 
   tag_low : (x : ℕ) → is_decl_tag (type_of ts x) ≡ true → x < 262145
   tag_low zero e = omega arith
-  tag_low (suc i) e = go (le_or_lt (length ts) i)
+  tag_low (suc i) e = go (cases_lt i (length ts))
     where
-      go : (length ts ≤ i) ⊎ (i < length ts) → suc i < 262145
-      go (inl q) = absurd (true≢false (sym e ∙ ap is_decl_tag (get_or_past ts i void_type q)))
-      go (inr q) = omega (arith, q, few)
+      go : (i < length ts) ⊎ (length ts ≤ i) → suc i < 262145
+      go (inl q) = omega (arith, q, few)
+      go (inr q) = absurd (true≢false (sym e ∙ ap is_decl_tag (get_or_past ts i void_type q)))
 
   kept_low : (x : ℕ) → Kept ts gs x → x < 262145
   kept_low x (reached r) = reached_low x r
@@ -142,8 +138,8 @@ module _ (ts : List Described) (few : length ts ≤ 262144) (good : GoodReferenc
 -- THE NUMBERS, of every id
 pub ids_all : (b : TypeTable) (s start : List ℕ) (ts : List Described) → SeenFrom b s start ts → length ts ≤ 262144 → GoodReferences ts → (given : List ℕ) → any_past (suc (length ts)) (words given) ≡ false
     → (x : ℕ) → get_or (ids_of b s start given all_zero) x 0 ≡ new_id (is_kept ts (words given)) x
-ids_all b s start ts see few good given past x = go (le_or_lt 262145 x)
+ids_all b s start ts see few good given past x = go (cases_lt x 262145)
   where
-    go : (262145 ≤ x) ⊎ (x < 262145) → get_or (ids_of b s start given all_zero) x 0 ≡ new_id (is_kept ts (words given)) x
-    go (inl l) = get_or_past (ids_of b s start given all_zero) x 0 (omega (arith, l, ids_long b s start given)) ∙ sym (new_past ts few good (words given) past x l)
-    go (inr l) = ids_are b s start ts see given (reached_low ts few good (words given) past) x l
+    go : (x < 262145) ⊎ (262145 ≤ x) → get_or (ids_of b s start given all_zero) x 0 ≡ new_id (is_kept ts (words given)) x
+    go (inl l) = ids_are b s start ts see given (reached_low ts few good (words given) past) x l
+    go (inr l) = get_or_past (ids_of b s start given all_zero) x 0 (omega (arith, l, ids_long b s start given)) ∙ sym (new_past ts few good (words given) past x l)

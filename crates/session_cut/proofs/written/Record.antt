@@ -5,7 +5,7 @@ use mathlib.Core.Path.{◌≡◌, refl, sym, ◌∙◌, ap, subst}
 use mathlib.Core.Bool.{Bool, true, false}
 use mathlib.Core.List.{List, [], ◌∷◌, ◌++◌, map, append_assoc}
 use lib.ListN.{length, get_or}
-use lib.Dec.{leb, eqb}
+use lib.Dec.{eqb}
 use Rattle.std.proofs.lemmas.List.{append-nil}
 use Rattle.spec_linux_btf.specs.Documentation.{in_bytes, Described, encode}
 use Rattle.spec_linux_btf.specs.Reading.{Bytes, kind, shape, known}
@@ -20,13 +20,14 @@ use Rattle.spec_type_table.specs.Records.{section_word}
 use Rattle.spec_type_table.proofs.Documented.{words_same}
 use Rattle.btf_open_causes.specs.references.Followed.{entry_at, place_of as place_at, kind_at, type_count}
 use Rattle.btf_open_causes.specs.header.Header.{btf_of}
-use Rattle.btf_open_causes.proofs.header.Headers.{order_is, and_left, and_right}
+use Rattle.btf_open_causes.proofs.header.Headers.{order_is}
 use Rattle.spec_opening.specs.Table.{described_in, types_of, record_place, record_kind, index_of}
 use Rattle.spec_opening.specs.Causes.{table_of}
 use Rattle.spec_opening.proofs.Index.{types_few, table_count, followed_place, followed_kind}
 use Rattle.spec_cut.specs.section.Kept.{void_type}
 use Rattle.spec_cut.specs.section.Renumbered.{renamed}
 use Rattle.spec_cut.specs.section.Strings.{mentions}
+use Rattle.spec_cut.proofs.reopened.Followed.{sound_known}
 use Rattle.session_cut_marks.specs.roles.Words.{fixed_words, entry_words, role, words_in, word_of}
 use Rattle.session_cut_marks.specs.mentioned.Names.{place_from, place_of}
 use Rattle.session_cut.specs.writer.Bytes.{word_bytes, new_word, record_bytes}
@@ -139,10 +140,6 @@ module _ (b : TypeTable) (s : List ℕ) where
         (λ i. record_bytes_lem e n i ++ w i)
         ∙ ap (λ (k : ℕ). flat (put b.big_endian code_id code_offset) (tabulate (code_item e) 0 n) ++ put b.big_endian code_id code_offset (code_item e k)) (sym z)
         ∙ sym (flat_last (put b.big_endian code_id code_offset) (code_item e) 0 n)
-
-sound_known : (w : ℕ → ℕ) (len p : ℕ) → sound_p w len p ≡ true → known (shape (kind (kind_p w p))) ≡ true
-unfolding sound_p
-sound_known w len p h = and_left (known (shape (kind (kind_p w p)))) _ (and_right (leb (p + 12) len) _ h)
 
 -- ---- in a section
 

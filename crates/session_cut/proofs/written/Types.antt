@@ -3,11 +3,11 @@ use Prim.Native.Nat.{ℕ, zero, suc, ◌+◌, ◌<◌, ◌≤◌}
 use native.Mathlib.Omega.{arith}
 use mathlib.Core.Path.{◌≡◌, refl, sym, ◌∙◌, ap, subst}
 use mathlib.Core.Bool.{Bool, true, false, not}
-use mathlib.Core.List.{List, [], ◌∷◌, ◌++◌, map}
+use mathlib.Core.List.{List, [], ◌∷◌, ◌++◌, map, append_assoc}
 use lib.ListN.{length, get_or}
 use lib.Dec.{eqb}
 use borrow.Author.Tests.{eq-eqb, ne_eqb}
-use Rattle.std.proofs.lemmas.List.{append-nil}
+use Rattle.std.proofs.lemmas.List.{append-nil, map-append}
 use Rattle.spec_linux_btf.specs.Documentation.{Described, encode, encode_all}
 use Rattle.spec_linux_btf.specs.Reading.{Bytes}
 use Rattle.spec_linux_btf.specs.Section.{header_sound, types_sound}
@@ -37,16 +37,12 @@ abbrev from_to : {A : Type 0} → (ℕ → List A) → ℕ → ℕ → List A
 from_to f x zero = []
 from_to f x (suc k) = f x ++ from_to f (suc x) k
 
-joins : {A : Type 0} (a c d : List A) → (a ++ c) ++ d ≡ a ++ (c ++ d)
-joins [] c d = refl
-joins (x ∷ a) c d = ap (λ l. x ∷ l) (joins a c d)
-
 -- what is made by adding at the end
 joined : {A : Type 0} (made : ℕ → List A) (f : ℕ → List A) → ((x : ℕ) → made (suc x) ≡ made x ++ f x) → (x k : ℕ) → made (x + k) ≡ made x ++ from_to f x k
 joined made f step x zero = let z : x + 0 ≡ x = omega arith in ap made z ∙ sym (append-nil (made x))
 joined made f step x (suc k) =
     let z : x + suc k ≡ suc x + k = omega arith in
-    ap made z ∙ joined made f step (suc x) k ∙ ap (λ l. l ++ from_to f (suc x) k) (step x) ∙ joins (made x) (f x) (from_to f (suc x) k)
+    ap made z ∙ joined made f step (suc x) k ∙ ap (λ l. l ++ from_to f (suc x) k) (step x) ∙ append_assoc (made x) (f x) (from_to f (suc x) k)
 
 -- the types that are kept
 walk : {A : Type 0} (g : Described → List A) (f : ℕ → List A) (m : ℕ → Bool) (x : ℕ) (us : List Described)
@@ -71,14 +67,10 @@ unfolding encode_all
 all_encoded big i o [] = refl
 all_encoded big i o (t ∷ ts) = ap (λ (l : List ℕ). encode big (renamed i o t) ++ l) (all_encoded big i o ts)
 
-map_joins : {A : Type 0} (f : ℕ → A) (a c : List ℕ) → map f a ++ map f c ≡ map f (a ++ c)
-map_joins f [] c = refl
-map_joins f (x ∷ a) c = ap (λ l. f x ∷ l) (map_joins f a c)
-
 all_mentions_lem : {A : Type 0} (f : ℕ → A) (ts : List Described) → all (λ t. map f (mentions t)) ts ≡ map f (all_mentions ts)
 unfolding all_mentions
 all_mentions_lem f [] = refl
-all_mentions_lem f (t ∷ ts) = ap (λ l. map f (mentions t) ++ l) (all_mentions_lem f ts) ∙ map_joins f (mentions t) (all_mentions ts)
+all_mentions_lem f (t ∷ ts) = ap (λ l. map f (mentions t) ++ l) (all_mentions_lem f ts) ∙ sym (map-append f (mentions t) (all_mentions ts))
 
 -- ---- of a section. ids: numbers that are those of the definition
 

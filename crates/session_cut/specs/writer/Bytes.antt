@@ -1,15 +1,17 @@
 -- What is written: the header, the words of the kept records, each name or id replaced, and the new names.
-use Rattle.std.specs.Prelude.{ℕ, zero, suc, ◌+◌, ◌*◌, ◌%◌, ◌/◌, ◌≡◌, Option, Some, None, Bool}
+use Rattle.std.specs.Prelude.{ℕ, zero, suc, ◌+◌, ◌*◌, ◌%◌, ◌/◌, Option, Some, None, Bool}
 use Rattle.std.specs.Prelude.{true, false, List, [], ◌∷◌, ◌++◌, length, get_or, drop, ltb, eqb}
 use Rattle.spec_c_dumper.specs.rules.Types.{is_empty}
 use Rattle.spec_type_table.specs.declared.types.TypeTable.{TypeTable}
 use Rattle.spec_type_table.specs.Names.{str_at}
 use Rattle.btf_open_causes.specs.references.Followed.{type_count, entry_at}
 use Rattle.session_cut_marks.specs.roles.Words.{role, words_in, word_of}
-use Rattle.session_cut_marks.specs.mentioned.Names.{is_new, place_of, base_of, bases_to, zero_bases}
+use Rattle.session_cut_marks.specs.mentioned.Names.{place_of, base_of, bases_to, zero_bases}
 use Rattle.session_cut_marks.specs.mentioned.Strings.{name_bytes, names_bytes, own_bytes, news_bytes, strings_bytes}
 use Rattle.session_cut.specs.declared.writer.source.Part.{Part}
 use Rattle.session_cut.specs.declared.writer.source.Part.TheVariants.{Records, Names}
+use Rattle.session_cut.specs.declared.writer.source.Told.{Told}
+use Rattle.session_cut.specs.declared.writer.source.Told.TheVariants.{New, At, Elsewhere}
 use Rattle.session_cut_marks.specs.interned.Slots.{found, slot_place}
 
 -- a word in four bytes, the most significant first where `big`
@@ -81,10 +83,6 @@ module _ (b : TypeTable) (s start ids : List ℕ) where
       (head_bytes b.big_endian (get_or s 3 0) types strings ++ types_bytes bases (type_count b))
       ++ strings_bytes b s start ids (type_count b)
 
--- the name of word j of the record with entry e, and its 0, if it is written
-unfoldable pub name_if : TypeTable → List ℕ → ℕ → ℕ → Bool → List ℕ
-name_if b s e j new = elim new [ true ↦ str_at b s (word_of b s e j) ++ (0 ∷ []) | false ↦ [] ]
-
 -- where the table t has the name of word j
 unfoldable pub sought : TypeTable → List ℕ → List ℕ → ℕ → ℕ → Option ℕ
 sought b s t e j = elim (eqb (role (e % 32) j) 1) [
@@ -92,14 +90,22 @@ sought b s t e j = elim (eqb (role (e % 32) j) 1) [
   | true ↦ elim (is_empty (str_at b s (word_of b s e j))) [ true ↦ None | false ↦ slot_place (found b s t (word_of b s e j)) ]
 ]
 
--- what the mention of word j of type x says, where the strings before it have the length `len`
-pub record Mentions (b : TypeTable) (s start ids bases : List ℕ) (x e j len : ℕ) (word : ℕ) (place : Option ℕ) (new : Bool)
-    (before : ℕ) : Type 0 where
-  pub same_word : word ≡ j
-  pub same_length : before ≡ len
-  pub first : new ≡ is_new b s start ids x e j
-  pub in_table : (p : ℕ) → place ≡ Some p → p ≡ place_of b s start ids bases (word_of b s e word)
-  pub at_end : new ≡ true → before ≡ place_of b s start ids bases (word_of b s e word)
+-- what is told of a name, which may be new and may have a place in the table; a new one's place is the length so far
+unfoldable pub told_of : Bool → Option ℕ → Told
+told_of true place = New
+told_of false (Some p) = At p
+told_of false None = Elsewhere
+
+abbrev pub is_told_new : Told → Bool
+is_told_new New = true
+is_told_new (At p) = false
+is_told_new Elsewhere = false
+
+-- the place in the table, of a name that is not new
+abbrev pub told_place : Told → Option ℕ
+told_place New = None
+told_place (At p) = Some p
+told_place Elsewhere = None
 
 -- the length written, and the output slice
 pub data Wrote : Type 0 where

@@ -1,28 +1,25 @@
 // Writing the new section.
-ghost use Rattle.std.specs.Prelude.{◌≡◌, true, ◌<◌, ◌≤◌, ℕ, Ok};
+ghost use Rattle.std.specs.Prelude.{◌≡◌, ◌<◌, ◌≤◌, Ok};
 ghost use Rattle.spec_bytes.specs.text.Text.{whole};
 ghost use Rattle.spec_bytes.specs.text.Placed.{put_out, put_text};
 ghost use Rattle.btf_open_causes.specs.references.Followed.{type_count};
-ghost use Rattle.session_cut_marks.specs.roles.Words.{words_in, word_of};
-ghost use Rattle.session_cut_marks.specs.mentioned.Names.{is_new, base_of, place_of};
-ghost use Rattle.session_cut_marks.specs.mentioned.Strings.{strings_bytes};
-ghost use Rattle.session_cut_marks.specs.interned.Right.{IsKept};
+ghost use Rattle.session_cut_marks.specs.mentioned.Names.{base_of};
+ghost use Rattle.session_cut_marks.specs.mentioned.Strings.{name_bytes, strings_bytes};
 ghost use Rattle.session_cut.specs.writer.Bytes.{word_bytes, magic_bytes, head_bytes, type_size, types_size, new_word};
-ghost use Rattle.session_cut.specs.writer.Bytes.{name_if, word_part, words_part, kept_bytes, part_bytes, all_bytes};
+ghost use Rattle.session_cut.specs.writer.Bytes.{word_part, words_part, kept_bytes, part_bytes, all_bytes};
 ghost use Rattle.session_cut.specs.writer.Bytes.{wrote_of, fitting_written, kept_written};
 ghost use Rattle.session_cut_marks.specs.kept.AtKept.{at_kept};
+ghost use Rattle.session_cut.specs.writer.OfType.{words_of};
 
-use crate::writer::source::{KeptType, Mention, Part, Source};
+use crate::writer::source::{KeptType, Mention, Part, Source, Told};
 use base_bytes::element::peek;
 use base_bytes::limit;
 use base_bytes::put::{put_byte, put_bytes};
 use base_bytes::refusal::Refusal;
 use btf_open_causes::header::{BIG_MAGIC, LITTLE_MAGIC};
-use btf_open_causes::references::Entry;
-use btf_type_table::table::Table;
 use session_cut_marks::interned::{SLOTS_LEN, Slot};
 use session_cut_marks::kept::Kept;
-use session_cut_marks::roles::{Role, word_of, word_role, words_in};
+use session_cut_marks::roles::{Role, word_role, words_in};
 
 // The lengths of the two areas.
 #[derive(Clone, Copy)]
@@ -40,17 +37,6 @@ fn put_word(out: &mut [u8], at: usize, big: bool, v: u32) -> Result<usize, Refus
     } else {
         put_bytes(out, at, &v.to_le_bytes())
     }
-}
-
-// The name of word m and its 0, if it is new.
-fn put_name(b: &Table, e: Entry, m: Mention, out: &mut [u8], at: usize) -> Result<usize, Refusal>
-    ensures { put_out result out.new ≡ put_text out.old (Ok at) (whole (name_if b.now.head b.now.section.now e.word m.j m.new)) }
-{
-    if !m.new {
-        return Ok(at);
-    }
-    let p = b.put_str(out, at, word_of(b, e, m.j))?;
-    put_byte(out, p, 0)
 }
 
 // The magic number in the order of the bytes, version 1 and the flags.
@@ -82,97 +68,89 @@ pub fn put_head(
     put_word(out, p4, big, strings)
 }
 
-// The length of the types. (A `for`: `type_size` asks a bound of the length so far, which its invariant has.)
+// The length of the types.
 pub fn types_size(kept: &Kept) -> u64
     ensures { result ≡ at_kept types_size kept.now (type_count kept.now.index.table.head) }
 {
-    let mut len = 0;
-    for x in 0..kept.index.count() {
-        len = type_size(kept, x, len);
-    }
-    len
+    (0..kept.index.count()).map(|x| type_size(kept, x)).sum()
 }
 
-fn type_size(kept: &Kept, x: u32, len: u64) -> u64
-    requires { len ≤ 4611686018427387904 }
-    ensures { result ≡ at_kept type_size kept.now x len }
+// The length of type x: 0, where it is not kept.
+fn type_size(kept: &Kept, x: u32) -> u64
+    ensures { result ≡ at_kept type_size kept.now x 0 }
 {
     if kept.new_id(x).is_none() {
-        return len;
+        return 0;
     }
-    len + (words_in(&kept.index.table, kept.entry(x)) as u64) * 4
+    (words_in(&kept.index.table, kept.entry(x)) as u64) * 4
 }
 
-impl Source<'_> {
-    // Word m of the record with entry e, as it is written.
-    fn new_word(&self, e: Entry, m: Mention) -> u32
-        requires { ((p : ℕ) → m.place ≡ Some p
-            → p ≡ at_kept place_of self.now.kept self.now.bases.now
-            (word_of self.now.kept.index.table.head self.now.kept.index.table.section.now e.word m.j))
-            × (m.new ≡ true
-            → m.len ≡ at_kept place_of self.now.kept self.now.bases.now
-            (word_of self.now.kept.index.table.head self.now.kept.index.table.section.now e.word m.j)) }
-        ensures { result ≡ at_kept new_word self.now.kept self.now.bases.now e.word m.j }
-    {
-        let w = word_of(&self.kept.index.table, e, m.j);
-        match word_role(e, m.j) {
-            Role::Name => self.place_of(w, m),
-            Role::Id => self.kept.new_id(w).unwrap_or(0),
-            Role::Plain => w,
-        }
-    }
-
-    // What the part has of word m of type t.
-    fn put_word_part(
-        &self,
-        t: KeptType,
-        m: Mention,
-        part: Part,
-        out: &mut [u8],
-        at: usize,
-    ) -> Result<usize, Refusal>
-        requires { ((p : ℕ) → m.place ≡ Some p
-            → p ≡ at_kept place_of self.now.kept self.now.bases.now
-            (word_of self.now.kept.index.table.head self.now.kept.index.table.section.now t.e.word m.j))
-            × (m.new ≡ true
-            → m.len ≡ at_kept place_of self.now.kept self.now.bases.now
-            (word_of self.now.kept.index.table.head self.now.kept.index.table.section.now t.e.word m.j))
-            × (m.new ≡ at_kept is_new self.now.kept t.x t.e.word m.j) }
-        ensures { put_out result out.new
-            ≡ put_text out.old (Ok at) (whole (at_kept word_part self.now.kept self.now.bases.now part t.x t.e.word m.j)) }
-    {
-        let b = &self.kept.index.table;
-        match part {
-            Part::Records => put_word(out, at, b.head.big_endian, self.new_word(t.e, m)),
-            Part::Names => put_name(b, t.e, m, out, at),
-        }
-    }
-
-    // What it has of all words of type t.
-    fn put_words(
-        &self,
-        t: KeptType,
-        part: Part,
-        out: &mut [u8],
-        at: usize,
-    ) -> Result<usize, Refusal>
-        requires { IsKept self.now.kept t.x t.e.word
-            × (t.base ≡ at_kept base_of self.now.kept t.x) }
+impl Mention<'_> {
+    // Its name and a 0, if that is new.
+    fn put_name(&self, out: &mut [u8], at: usize) -> Result<usize, Refusal>
         ensures { put_out result out.new
             ≡ put_text out.old (Ok at)
-            (whole (at_kept words_part self.now.kept self.now.bases.now part t.x t.e.word
-            (words_in self.now.kept.index.table.head self.now.kept.index.table.section.now t.e.word))) }
+            (whole (at_kept name_bytes self.now.of.source.now.kept self.now.of.x self.now.of.e.word self.now.j)) }
+    {
+        let Told::New = self.told else {
+            return Ok(at);
+        };
+        let p = self
+            .of
+            .source
+            .kept
+            .index
+            .table
+            .put_str(out, at, self.word())?;
+        put_byte(out, p, 0)
+    }
+
+    // The word as it is written.
+    fn new_word(&self) -> u32
+        ensures { result ≡ at_kept new_word self.now.of.source.now.kept self.now.of.source.now.bases.now self.now.of.e.word self.now.j }
+    {
+        match word_role(self.of.e, self.j) {
+            Role::Name => self.place(),
+            Role::Id => self.of.source.kept.new_id(self.word()).unwrap_or(0),
+            Role::Plain => self.word(),
+        }
+    }
+
+    // What the part has of it.
+    fn put_word_part(&self, part: Part, out: &mut [u8], at: usize) -> Result<usize, Refusal>
+        ensures { put_out result out.new
+            ≡ put_text out.old (Ok at)
+            (whole (at_kept word_part self.now.of.source.now.kept self.now.of.source.now.bases.now part self.now.of.x
+            self.now.of.e.word self.now.j)) }
+    {
+        let big = self.of.source.kept.index.table.head.big_endian;
+        match part {
+            Part::Records => put_word(out, at, big, self.new_word()),
+            Part::Names => self.put_name(out, at),
+        }
+    }
+}
+
+impl KeptType<'_> {
+    // What the part has of all its words.
+    fn put_words(&self, part: Part, out: &mut [u8], at: usize) -> Result<usize, Refusal>
+        ensures { put_out result out.new
+            ≡ put_text out.old (Ok at)
+            (whole (at_kept words_part self.now.source.now.kept self.now.source.now.bases.now part self.now.x self.now.e.word
+            (words_of self.now))) }
     {
         let mut p = at;
-        let mut len = t.base;
-        for j in 0..words_in(&self.kept.index.table, t.e) {
-            let m = self.mention(t, j, len);
-            p = self.put_word_part(t, m, part, out, p)?;
-            len = self.longer(t, m);
+        let mut len = self.base;
+        for j in 0..words_in(&self.source.kept.index.table, self.e) {
+            let m = self.mention(j, len);
+            p = m.put_word_part(part, out, p)?;
+            len = m.longer();
         }
         Ok(p)
     }
+}
 
+impl Source<'_> {
     // What the part has of type x: nothing, where it is not kept.
     fn put_kept(&self, x: u32, part: Part, out: &mut [u8], at: usize) -> Result<usize, Refusal>
         requires { x < type_count self.now.kept.index.table.head }
@@ -182,7 +160,7 @@ impl Source<'_> {
         let Some(t) = self.kept_type(x) else {
             return Ok(at);
         };
-        self.put_words(t, part, out, at)
+        t.put_words(part, out, at)
     }
 
     // What the part has of all types.

@@ -8,11 +8,11 @@ use lib.ListN.{get_or}
 use lib.Dec.{eqb}
 use borrow.Author.Tests.{eq-eqb, ne_eqb}
 use Rattle.spec_c_dumper.specs.rules.Types.{is_empty}
+use Rattle.spec_c_dumper.proofs.rules.Names.{bytes_same}
 use Rattle.spec_type_table.specs.declared.types.TypeTable.{TypeTable}
 use Rattle.spec_type_table.specs.Names.{str_at}
 use Rattle.btf_open_causes.specs.references.Followed.{type_count, entry_at}
 use Rattle.btf_open_names.specs.name_classes.Table.{hash_from}
-use Rattle.spec_cut.proofs.section.Names.{same_bytes_lem}
 use Rattle.session_cut_marks.specs.roles.Words.{role, words_in, word_of}
 use Rattle.std.proofs.lemmas.List.{get_or_past}
 use Rattle.session_cut_marks.specs.mentioned.Names.{is_new, new_sizes, base_of, place_of}
@@ -24,7 +24,7 @@ use Rattle.session_cut_marks.proofs.interned.Places.{below, above, compare, seen
 module _ (b : TypeTable) (s start ids t : List ℕ) (right : Right b s start ids t) where
   pub found_place : (off v : ℕ) → v ≡ found b s t off → (v ≡ 0 → ⊥) → v / 4294967296 ≡ place_of b s start ids (all_bases b s start ids) off
   unfolding found slot_of
-  found_place off v e n = ap (λ (u : ℕ). u / 4294967296) e ∙ sym (right.places i m off (sym (same_bytes_lem (str_at b s (get_or t i 0 % 4294967296)) (str_at b s off) (ends_same b s t (str_at b s off) (hash_from 0 (str_at b s off) % 262144) 262144 in_table m))))
+  found_place off v e n = ap (λ (u : ℕ). u / 4294967296) e ∙ sym (right.places i m off (sym (bytes_same (str_at b s (get_or t i 0 % 4294967296)) (str_at b s off) (ends_same b s t (str_at b s off) (hash_from 0 (str_at b s off) % 262144) 262144 in_table m))))
     where
       i : ℕ
       i = probe b s t (str_at b s off) (hash_from 0 (str_at b s off) % 262144) 262144

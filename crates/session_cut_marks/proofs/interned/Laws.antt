@@ -182,9 +182,6 @@ module _ (b : TypeTable) (s start ids : List ℕ) where
     unfolding entered_to after
     more_words j m u r h g = rw add-one (g ∙ ap (λ (f : Filled). after f (entered b s start ids x e j)) h)
 
-    pub all_words : (n j : ℕ) (r : Filled) → n ≡ words_in b s e → j ≤ n → n ≤ j → r ≡ entered_to b s start ids x e len t j → r ≡ entered_to b s start ids x e len t (words_in b s e)
-    all_words n j r c l g h = let z : j ≡ n = omega (arith, l, g) in h ∙ ap (entered_to b s start ids x e len t) (z ∙ c)
-
   module _ (x len : ℕ) (t : List ℕ) (v : ℕ) (k : v ≡ get_or ids x 0) where
     pub type_none : v ≡ 0 → filled_of len t ≡ entered_type b s start ids x len t
     unfolding entered_type

@@ -11,16 +11,16 @@ use lib.Dec.{eqb}
 use borrow.Author.Tests.{ne_eqb}
 use Rattle.spec_c_dumper.specs.rules.Types.{is_empty}
 use Rattle.spec_c_dumper.specs.rules.Names.{same_bytes}
+use Rattle.spec_c_dumper.proofs.rules.Names.{bytes_self, bytes_same}
 use Rattle.spec_type_table.specs.declared.types.TypeTable.{TypeTable}
 use Rattle.spec_type_table.specs.Names.{str_at}
 use Rattle.btf_open_causes.specs.references.Followed.{type_count, entry_at}
 use Rattle.btf_open_causes.specs.references.Bounds.{count_fits}
-use Rattle.spec_cut.proofs.section.Names.{same_bytes_lem, bytes_same}
 use Rattle.session_cut_marks.specs.roles.Words.{role, words_in, word_of}
 use Rattle.session_cut_marks.specs.interned.Right.{all_bases}
 use Rattle.session_cut_marks.specs.mentioned.Names.{zero_bases, is_name, or_name, named_to, first_from, mentions, or_mentions, mentioned_to, is_new, new_size, new_sizes, record_size, base_of, bases_to, place_at, place_from, place_of}
 
-zero_bases_lem : length zero_bases ≡ 262145
+pub zero_bases_lem : length zero_bases ≡ 262145
 unfolding zero_bases
 zero_bases_lem = length-replicate {A = ℕ} 262145 0
 
@@ -51,14 +51,14 @@ module _ (b : TypeTable) (s : List ℕ) where
   name_if_lem e off j h = go (eqb (role (e % 32) j) 1) h
     where
       go : (q : Bool) → ◌≡◌ {A = Bool} (elim q [ true ↦ same_bytes (str_at b s (word_of b s e j)) (str_at b s off) | false ↦ false ]) true → (q ≡ true) × (str_at b s (word_of b s e j) ≡ str_at b s off)
-      go true g = (refl, same_bytes_lem (str_at b s (word_of b s e j)) (str_at b s off) g)
+      go true g = (refl, bytes_same (str_at b s (word_of b s e j)) (str_at b s off) g)
       go false g = absurd (true≢false (sym g))
 
   pub is_same : (e off j : ℕ) → eqb (role (e % 32) j) 1 ≡ true → str_at b s (word_of b s e j) ≡ str_at b s off → is_name b s e off j ≡ true
   unfolding is_name
   is_same e off j r h =
       ap (λ (q : Bool). elim q as (λ z. Bool) [ true ↦ same_bytes (str_at b s (word_of b s e j)) (str_at b s off) | false ↦ false ]) r
-      ∙ ap (λ (l : List ℕ). same_bytes l (str_at b s off)) h ∙ bytes_same (str_at b s off)
+      ∙ ap (λ (l : List ℕ). same_bytes l (str_at b s off)) h ∙ bytes_self (str_at b s off)
 
   module _ (e off : ℕ) where
     pub named_next : (j : ℕ) → named_to b s e off (suc j) ≡ or_else (named_to b s e off j) (is_name b s e off j)

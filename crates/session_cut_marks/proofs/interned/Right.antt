@@ -4,18 +4,20 @@ use native.Mathlib.Omega.{arith}
 use native.Mathlib.Decide.{ℕ_discrete}
 use mathlib.Core.Path.{◌≡◌, refl, sym, ◌∙◌, ap, subst}
 use mathlib.Core.Bool.{Bool, true, false, true≢false}
-use mathlib.Core.List.{List, [], ◌∷◌}
-use lib.ListN.{length, get_or, set, drop, length-set, replicate, length-replicate}
+use mathlib.Core.List.{List}
+use lib.ListN.{length, get_or, set, length-set, length-replicate}
 use lib.Seq.{get_or-set_same, get_or-set_other}
 use lib.Dec.{eqb}
 use borrow.Author.Tests.{eq-eqb, ne_eqb, le-ltb}
+use Rattle.std.proofs.lemmas.List.{drop_all}
 use Rattle.spec_c_dumper.specs.rules.Types.{is_empty}
 use Rattle.spec_c_dumper.specs.rules.Names.{same_bytes}
+use Rattle.spec_c_dumper.proofs.rules.Names.{bytes_self, bytes_same}
 use Rattle.spec_type_table.specs.declared.types.TypeTable.{TypeTable}
 use Rattle.spec_type_table.specs.Names.{up_to_zero, name_at, str_at}
 use Rattle.btf_open_causes.specs.references.Followed.{type_count, entry_at}
 use Rattle.btf_open_names.specs.name_classes.Table.{hash_from}
-use Rattle.spec_cut.proofs.section.Names.{same_bytes_lem, bytes_same}
+use Rattle.spec_bytes.proofs.words.Laws.{get_replicate}
 use Rattle.session_cut_marks.specs.roles.Words.{role, words_in, word_of}
 use Rattle.session_cut_marks.specs.mentioned.Names.{zero_bases, is_name, named_to, mentions, mentioned_to, new_size, new_sizes, record_size, base_of, bases_to, place_of}
 use Rattle.session_cut_marks.specs.interned.Slots.{probe, slot_of}
@@ -24,17 +26,6 @@ use Rattle.session_cut_marks.specs.interned.Right.{all_bases, Right}
 use Rattle.session_cut_marks.proofs.interned.Laws.{settled_plain, settled_old, settled_new, entered_over, entered_other, entered_empty, entered_name, type_none, type_is}
 use Rattle.session_cut_marks.proofs.interned.Probes.{free, ends_free, free_ends, ends_same, keeps, enters}
 use Rattle.session_cut_marks.proofs.interned.Places.{below, above, compare, or_else, name_if_lem, is_same, named_next, seen, mentioned_next, kept_size, kept_mentions, size_new, size_old, size_other, size_empty, base_next, base_up, base_some, place_new}
-
-past_end : (a : List ℕ) (k : ℕ) → length a ≤ k → drop k a ≡ []
-past_end [] zero h = refl
-past_end [] (suc k) h = refl
-past_end (x ∷ a) zero h = absurd (omega (arith, h))
-past_end (x ∷ a) (suc k) h = past_end a k (omega (arith, h))
-
-all_zero_lem : (n i : ℕ) → get_or {A = ℕ} (replicate {A = ℕ} n 0) i 0 ≡ 0
-all_zero_lem zero i = refl
-all_zero_lem (suc n) zero = refl
-all_zero_lem (suc n) (suc i) = all_zero_lem n i
 
 or_none : (q : Bool) → or_else q false ≡ q
 or_none true = refl
@@ -67,7 +58,7 @@ module _ (b : TypeTable) (s start ids : List ℕ) (short : length s ≤ 16777216
   unfolding name_at is_empty up_to_zero
   inside off h =
       elim (compare (length s) (b.strs + off)) [
-        | below l ↦ absurd (true≢false (sym (ap (λ (r : List ℕ). is_empty (up_to_zero r)) (past_end s (b.strs + off) l)) ∙ h))
+        | below l ↦ absurd (true≢false (sym (ap (λ (r : List ℕ). is_empty (up_to_zero r)) (drop_all (b.strs + off) s l)) ∙ h))
         | above l ↦ omega (arith, l, short)
       ]
 
@@ -163,7 +154,7 @@ module _ (b : TypeTable) (s start ids : List ℕ) (short : length s ≤ 16777216
             says = g.says q n
 
             at : place_of b s start ids (all_bases b s start ids) w ≡ get_or t q 0 / 4294967296
-            at = says.1 w (sym (same_bytes_lem (str_at b s (get_or t q 0 % 4294967296)) (str_at b s w) (ends_same b s t (str_at b s w) (hash_from 0 (str_at b s w) % 262144) 262144 m n)))
+            at = says.1 w (sym (bytes_same (str_at b s (get_or t q 0 % 4294967296)) (str_at b s w) (ends_same b s t (str_at b s w) (hash_from 0 (str_at b s w) % 262144) 262144 m n)))
 
             go : (c : Bool) → seen b s start ids w x e j ≡ c → new_size b s start ids x e j ≡ 0
             go true y = size_old b s start ids x e j r some y
@@ -210,7 +201,7 @@ module _ (b : TypeTable) (s start ids : List ℕ) (short : length s ≤ 16777216
           enters_new off h =
               let y = (name_if_lem b s e off j h).1 in
               enters b s t (str_at b s off) q v z (omega (arith, m, g.long)) m (λ a. absurd (omega (arith, a, g.is, base_some b s start ids x)))
-              (ap (λ (u : ℕ). same_bytes (str_at b s u) (str_at b s off)) v_low ∙ ap (λ (c : List ℕ). same_bytes c (str_at b s off)) y ∙ bytes_same (str_at b s off))
+              (ap (λ (u : ℕ). same_bytes (str_at b s u) (str_at b s off)) v_low ∙ ap (λ (c : List ℕ). same_bytes c (str_at b s off)) y ∙ bytes_self (str_at b s off))
               (hash_from 0 (str_at b s off) % 262144) 262144 (same_way off h).0
 
           new_name : Good x e (suc j) (len + (length (str_at b s w) + 1)) (set t q v)
@@ -335,7 +326,7 @@ module _ (b : TypeTable) (s start ids : List ℕ) (short : length s ≤ 16777216
   first = good record {
     is = refl;
     long = length-replicate {A = ℕ} 262144 0;
-    says = λ i n. absurd (n (all_zero_lem 262144 i));
+    says = λ i n. absurd (n (get_replicate {A = ℕ} 0 262144 i));
     whole = λ off n h. absurd (true≢false (sym h ∙ seen_start off 0 0));
   }
 

@@ -50,9 +50,6 @@ pub more_pushed : (f : ℕ → ℕ) (h : Heap) (k : ℕ) (m st : List ℕ) (d : 
 unfolding pushed_to
 more_pushed f h k m st d m' st' r y e q p = rw add-one (p ∙ (λ i. pushed (e i) (q i)))
 
-pub all_pushed : (f : ℕ → ℕ) (h h' : Heap) (n k : ℕ) → k ≤ n → n ≤ k → h' ≡ pushed_to f h k → h' ≡ pushed_to f h n
-all_pushed f h h' n k l g e = let z : k ≡ n = omega (arith, l, g) in e ∙ ap (pushed_to f h) z
-
 pub all_followed : (b : TypeTable) (s start : List ℕ) (x e : ℕ) → e ≡ entry_at b start x → (n k : ℕ) → n ≡ count_at b s (e % 32) (e / 32) → k ≤ n → n ≤ k → (h h' : Heap) → h' ≡ pushed_to (id_at b s (e % 32) (e / 32)) h k
     → h' ≡ pushed_to (followed_id b s start x) h (followed_count b s start x)
 unfolding followed_id followed_count kind_at place_of

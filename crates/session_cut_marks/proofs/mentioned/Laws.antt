@@ -2,7 +2,7 @@
 use Prim.Native.Nat.{ℕ, zero, suc, ◌+◌, ◌%◌, ◌≤◌}
 use native.Mathlib.Omega.{arith}
 use mathlib.Core.Path.{◌≡◌, refl, sym, ◌∙◌, ap}
-use mathlib.Core.Bool.{Bool, true, false, cond, not, ◌&&◌, ◌||◌}
+use mathlib.Core.Bool.{Bool, true, false, cond, not, ◌||◌, or-false, or_assoc}
 use mathlib.Core.List.{List, [], ◌∷◌}
 use lib.ListN.{length, get_or, drop, length-drop}
 use lib.Dec.{eqb}
@@ -13,42 +13,18 @@ use Rattle.std.proofs.Common.{Option, Some, None}
 use borrow.Author.Tests.{eq-eqb, ne_eqb}
 use Rattle.spec_c_dumper.specs.rules.Types.{is_empty}
 use Rattle.spec_c_dumper.specs.rules.Names.{same_bytes}
+use Rattle.spec_c_dumper.proofs.rules.Names.{bytes_self, compared}
 use Rattle.spec_type_table.specs.declared.types.TypeTable.{TypeTable}
 use Rattle.spec_type_table.specs.Names.{up_to_zero, name_at, str_at}
 use Rattle.btf_open_causes.specs.references.Followed.{entry_at}
 use Rattle.session_cut_marks.specs.roles.Words.{role, words_in, word_of}
 use Rattle.session_cut_marks.specs.mentioned.Names.{is_name, or_name, named_to, first_from, first_name, mentions, or_mentions, mentioned_to, is_new}
 
-or_false : (p : Bool) → (p || false) ≡ p
-or_false true = refl
-or_false false = refl
-
-or_assoc : (p q r : Bool) → (p || (q || r)) ≡ ((p || q) || r)
-or_assoc true q r = refl
-or_assoc false q r = refl
-
 or_is : (p q : Bool) → (p || q) ≡ elim p as (λ z. Bool) [ true ↦ true | false ↦ q ]
 or_is true q = refl
 or_is false q = refl
 
 -- ---- bytes of names
-heads : (q r t : Bool) → r ≡ t → (q && r) ≡ elim q as (λ z. Bool) [ true ↦ t | false ↦ false ]
-heads true r t h = h
-heads false r t h = refl
-
--- `==` on slices compares their bytes
-pub bytes_eq_is : (a c : List ℕ) → pointwise eqb a c ≡ same_bytes a c
-unfolding same_bytes
-bytes_eq_is [] [] = refl
-bytes_eq_is [] (y ∷ c) = refl
-bytes_eq_is (x ∷ a) [] = refl
-bytes_eq_is (x ∷ a) (y ∷ c) = heads (eqb x y) (pointwise eqb a c) (same_bytes a c) (bytes_eq_is a c)
-
-bytes_same : (a : List ℕ) → same_bytes a a ≡ true
-unfolding same_bytes
-bytes_same [] = refl
-bytes_same (x ∷ a) = ap (λ (q : Bool). elim q as (λ z. Bool) [ true ↦ same_bytes a a | false ↦ false ]) (eq-eqb x x refl) ∙ bytes_same a
-
 up_to_short : (l : List ℕ) → length (up_to_zero l) ≤ length l
 unfolding up_to_zero
 up_to_short [] = omega arith
@@ -57,11 +33,11 @@ up_to_short (suc x ∷ l) = omega (arith, up_to_short l)
 
 -- ---- tests of a range, of which the last comes last
 any_last : (test : ℕ → Bool) (a n : ℕ) → list_any test (range_with_len a (suc n)) ≡ (list_any test (range_with_len a n) || test (a + n))
-any_last test a zero = let z : a ≡ a + 0 = omega arith in or_false (test a) ∙ ap test z
+any_last test a zero = let z : a ≡ a + 0 = omega arith in or-false (test a) ∙ ap test z
 any_last test a (suc n) =
     let z : a + 1 + n ≡ a + suc n = omega arith in
     ap (λ (q : Bool). test a || q) (any_last test (a + 1) n ∙ ap (λ (k : ℕ). list_any test (range_with_len (a + 1) n) || test k) z)
-    ∙ or_assoc (test a) (list_any test (range_with_len (a + 1) n)) (test (a + suc n))
+    ∙ sym (or_assoc (test a) (list_any test (range_with_len (a + 1) n)) (test (a + suc n)))
 
 any_from_0 : (test : ℕ → Bool) (n : ℕ) → list_any test (range_with_len 0 (suc n)) ≡ (list_any test (range_with_len 0 n) || test n)
 any_from_0 test n = let z : 0 + n ≡ n = omega arith in any_last test 0 n ∙ ap (λ (k : ℕ). list_any test (range_with_len 0 n) || test k) z
@@ -76,10 +52,10 @@ module _ (b : TypeTable) (s : List ℕ) where
   name_short off = omega (arith, up_to_short (drop (b.strs + off) s), length-drop (b.strs + off) s)
 
   pub one_name : (p q : ℕ) → p ≡ q → true ≡ same_bytes (str_at b s p) (str_at b s q)
-  one_name p q e = sym (bytes_same (str_at b s p)) ∙ ap (λ (k : ℕ). same_bytes (str_at b s p) (str_at b s k)) e
+  one_name p q e = sym (bytes_self (str_at b s p)) ∙ ap (λ (k : ℕ). same_bytes (str_at b s p) (str_at b s k)) e
 
   pub two_names : (p q : ℕ) (a c : List ℕ) (r : Bool) → a ≡ str_at b s p → c ≡ str_at b s q → r ≡ pointwise eqb a c → r ≡ same_bytes (str_at b s p) (str_at b s q)
-  two_names p q a c r e f g = g ∙ bytes_eq_is a c ∙ (λ i. same_bytes (e i) (f i))
+  two_names p q a c r e f g = g ∙ compared a c ∙ (λ i. same_bytes (e i) (f i))
 
   module _ (e off j v : ℕ) (k : v ≡ role (e % 32) j) where
     pub no_name : (v ≡ 1 → ⊥) → false ≡ is_name b s e off j

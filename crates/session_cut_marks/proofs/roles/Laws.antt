@@ -7,9 +7,9 @@ use mathlib.Core.List.{List, [], ◌∷◌}
 use mathlib.Core.Logic.{⊎_elim}
 use lib.ListN.{length}
 use borrow.Author.Tests.{eq-eqb, ne_eqb, lt-ltb, le-ltb}
+use Rattle.std.proofs.lemmas.Bool.{cases_lt}
 use Rattle.std.proofs.lemmas.List.{get_or_past}
 use Rattle.spec_bytes.specs.text.Text.{ascii}
-use Rattle.spec_bytes.proofs.words.Laws.{le_or_lt}
 use Rattle.spec_type_table.proofs.KindLaws.{by_kind}
 use Rattle.spec_type_table.specs.declared.types.TypeTable.{TypeTable}
 use Rattle.spec_type_table.specs.Records.{section_word, vlen_of}
@@ -49,7 +49,7 @@ module _ (per j : ℕ) (l : 3 ≤ j) where
 -- a record without entries has six words at most: each has a column of its own
 pub column_flat : (j : ℕ) → j < 6 → j ≡ column 0 j
 unfolding column
-column_flat j l = ⊎_elim (λ h. let z : j ≡ 3 + (j - 3) % 3 = omega (arith, h, l) in z ∙ column_three 0 j h (λ e. omega (arith, e))) (λ h. rw (lt-ltb j 3 h, column)) (le_or_lt 3 j)
+column_flat j l = ⊎_elim (λ h. rw (lt-ltb j 3 h, column)) (λ h. let z : j ≡ 3 + (j - 3) % 3 = omega (arith, h, l) in z ∙ column_three 0 j h (λ e. omega (arith, e))) (cases_lt j 3)
 
 -- ---- words by kind
 module _ (k n : ℕ) where
@@ -84,16 +84,16 @@ none_two e = omega (arith, e)
 -- two words of three that are the same
 pub first_two : (y k n : ℕ) (r : Role) → k ≡ y → (entry_words y ≡ 2 → ⊥) → (n % 3 ≡ 2 → ⊥) → r ≡ role_of (digit_at roles (y * 6 + 3)) → r ≡ role_of (digit_at roles (y * 6 + 4)) → r ≡ role_of (role k (3 + n))
 first_two y k n r e h g a b =
-    ⊎_elim (λ l. let c : n % 3 ≡ 1 = omega (arith, l, g) in b ∙ three_of y 1 k n e h c) (λ l. let c : n % 3 ≡ 0 = omega (arith, l) in a ∙ three_of y 0 k n e h c) (le_or_lt 1 (n % 3))
+    ⊎_elim (λ l. let c : n % 3 ≡ 0 = omega (arith, l) in a ∙ three_of y 0 k n e h c) (λ l. let c : n % 3 ≡ 1 = omega (arith, l, g) in b ∙ three_of y 1 k n e h c) (cases_lt (n % 3) 1)
 
 pub last_two : (y k n : ℕ) (r : Role) → k ≡ y → (entry_words y ≡ 2 → ⊥) → (n % 3 ≡ 0 → ⊥) → r ≡ role_of (digit_at roles (y * 6 + 4)) → r ≡ role_of (digit_at roles (y * 6 + 5)) → r ≡ role_of (role k (3 + n))
 last_two y k n r e h g a b =
-    ⊎_elim (λ l. let c : n % 3 ≡ 2 = omega (arith, l) in b ∙ three_of y 2 k n e h c) (λ l. let c : n % 3 ≡ 1 = omega (arith, l, g) in a ∙ three_of y 1 k n e h c) (le_or_lt 2 (n % 3))
+    ⊎_elim (λ l. let c : n % 3 ≡ 1 = omega (arith, l, g) in a ∙ three_of y 1 k n e h c) (λ l. let c : n % 3 ≡ 2 = omega (arith, l) in b ∙ three_of y 2 k n e h c) (cases_lt (n % 3) 2)
 
 -- a record without entries
 flat : (y n : ℕ) → (entry_words y ≡ 2 → ⊥) → Plain ≡ role_of (digit_at roles (y * 6 + 3)) → Plain ≡ role_of (digit_at roles (y * 6 + 4)) → Plain ≡ role_of (digit_at roles (y * 6 + 5)) → Plain ≡ role_of (role y (3 + n))
 flat y n h a b d =
-    ⊎_elim (λ l. let c : n % 3 ≡ 2 = omega (arith, l) in d ∙ three_of y 2 y n refl h c) (λ l. first_two y y n Plain refl h (λ c. omega (arith, l, c)) a b) (le_or_lt 2 (n % 3))
+    ⊎_elim (λ l. first_two y y n Plain refl h (λ c. omega (arith, l, c)) a b) (λ l. let c : n % 3 ≡ 2 = omega (arith, l) in d ∙ three_of y 2 y n refl h c) (cases_lt (n % 3) 2)
 
 -- a number that is no kind
 past : (l : List ℕ) (i : ℕ) → length l ≤ i → digit_at l i ≡ 0
@@ -175,9 +175,6 @@ plain_rest n =
     (λ a b c d e f g. absurd (c refl)) (λ a b c d e f g. flat 14 n none_two refl refl refl) (λ a b c d e f g. absurd (g refl))
     (λ a b c d e f g. flat 16 n none_two refl refl refl) (λ a b c d e f g. flat 17 n none_two refl refl refl) (λ a b c d e f g. flat 18 n none_two refl refl refl)
     (λ a b c d e f g. absurd (e refl)) (λ k l a b c d e f g. role_past k (3 + n) l)
-
-pub entry_from : (k j : ℕ) → 3 ≤ j → (r : Role) → r ≡ role_of (role k (3 + (j - 3))) → r ≡ role_of (role k j)
-entry_from k j l r h = let z : 3 + (j - 3) ≡ j = omega (arith, l) in h ∙ ap (λ (i : ℕ). role_of (role k i)) z
 
 -- a word is a name where its digit is 1, and an id where it is 2
 digit_name : (d : ℕ) → role_of d ≡ Name → d ≡ 1

@@ -9,12 +9,12 @@ use lib.ListN.{length, get_or, set}
 use lib.Dec.{ltb, eqb}
 use lib.Seq.{set_out}
 use mathlib.Core.Logic.{⊎_elim}
-use Rattle.spec_bytes.proofs.words.Laws.{le_or_lt}
 use borrow.Author.Tests.{eq-eqb, ne_eqb, lt-ltb, le-ltb}
+use Rattle.std.proofs.lemmas.Bool.{cases_lt}
 use Rattle.spec_type_table.specs.declared.types.TypeTable.{TypeTable}
 use Rattle.std.proofs.lemmas.List.{get_or_past}
 use Rattle.spec_type_table.specs.Records.{section_word}
-use Rattle.btf_open_causes.specs.references.Followed.{type_count, entry_at, kind_at, place_of}
+use Rattle.btf_open_causes.specs.references.Followed.{entry_at, kind_at, place_of}
 use Rattle.std.proofs.Common.{Option, Some, None}
 use Rattle.std.specs.Option.{is_some}
 use Rattle.session_cut_marks.specs.tags.Tags.{some_number, tag_on, tagged_at, tagged_to, Numbered, numbered, numbers_in, numbered_at, numbered_to, numbers_of}
@@ -118,7 +118,7 @@ module _ (b : TypeTable) (s start : List ℕ) where
       tag_past z l = rw (ne_eqb (tag_on b s start x) 0 (λ u. nz (q ∙ u)), tagged_at, ne_eqb (get_or m (tag_on b s start x) 0) 0 (λ u. z (found ∙ u)), le-ltb x (length m) l)
 
       pub tag_marked : (v ≡ 0 → ⊥) → set m x 1 ≡ tagged_at b s start m x
-      tag_marked z = ⊎_elim (λ l. set_out m x 1 l ∙ tag_past z l) (tag_inside z) (le_or_lt (length m) x)
+      tag_marked z = ⊎_elim (tag_inside z) (λ l. set_out m x 1 l ∙ tag_past z l) (cases_lt x (length m))
 
   pub none_tagged : (m : List ℕ) → m ≡ tagged_to b s start m 0
   unfolding tagged_to
@@ -127,9 +127,6 @@ module _ (b : TypeTable) (s start : List ℕ) where
   pub more_tagged : (m₀ m m' : List ℕ) (x : ℕ) → m ≡ tagged_to b s start m₀ x → m' ≡ tagged_at b s start m x → m' ≡ tagged_to b s start m₀ (x + 1)
   unfolding tagged_to
   more_tagged m₀ m m' x e p = rw add-one (p ∙ ap (λ (l : List ℕ). tagged_at b s start l x) e)
-
-  pub all_tagged : (m₀ m : List ℕ) (n x : ℕ) → n ≡ type_count b → x ≤ n → n ≤ x → m ≡ tagged_to b s start m₀ x → m ≡ tagged_to b s start m₀ (type_count b)
-  all_tagged m₀ m n x c l g e = let z : x ≡ n = omega (arith, l, g) in e ∙ ap (tagged_to b s start m₀) (z ∙ c)
 
 -- ---- numbers
 module _ (m : List ℕ) (c x v : ℕ) (q : v ≡ get_or m x 0) where
@@ -140,7 +137,7 @@ module _ (m : List ℕ) (c x v : ℕ) (q : v ≡ get_or m x 0) where
   pub number_next : (v ≡ 0 → ⊥) → numbered (set m x (c + 1)) (c + 1) ≡ numbered_at (numbered m c) x
   unfolding numbered_at
   number_next z =
-      let l : x < length m = ⊎_elim (λ h. absurd (z (q ∙ get_or_past m x 0 h))) (λ h. h) (le_or_lt (length m) x) in
+      let l : x < length m = ⊎_elim (λ h. h) (λ h. absurd (z (q ∙ get_or_past m x 0 h))) (cases_lt x (length m)) in
       rw (ne_eqb (get_or m x 0) 0 (λ u. z (q ∙ u)), numbered_at, lt-ltb x (length m) l, add-one)
 
 abbrev last_in : Numbered → ℕ

@@ -1,4 +1,5 @@
 -- What the filled table says is so, of strings that have 16,777,216 bytes at most.
+use mathlib.Core.HLevel.{⊥_prop}
 use Rattle.std.specs.Prelude.{ℕ, ◌%◌, ◌/◌, ◌<◌, ◌≤◌, ◌≡◌, List, length, get_or}
 use Rattle.std.specs.Coded.{le_prop, Coded-set, coded_ℕ}
 use Rattle.spec_type_table.specs.declared.types.TypeTable.{TypeTable}
@@ -37,6 +38,14 @@ pub record StringKept (b : TypeTable) (start ids : List ℕ) (x e : ℕ) : Type 
   pub kept : get_or ids x 0 ≡ 0 → ⊥
   pub entry : e ≡ entry_at b start x
 
+-- two proofs of it are the same
+pub StringKept-prop : (b : TypeTable) (start ids : List ℕ) (x e : ℕ) → IsProp (StringKept b start ids x e)
+StringKept-prop b start ids x e p q i = record {
+  below = le_prop p.below q.below i;
+  kept = λ z. ⊥_prop (p.kept z) (q.kept z) i;
+  entry = Coded-set coded_ℕ e (entry_at b start x) p.entry q.entry i;
+}
+
 -- the two at a value of the code
 abbrev pub IsRight : Kept → List ℕ → Type 0
 IsRight k t = Right k.index.table.head k.index.table.section.now k.index.start.now k.ids.now t
@@ -46,3 +55,6 @@ IsRight-prop k t = Right-prop k.index.table.head k.index.table.section.now k.ind
 
 abbrev pub IsKept : Kept → ℕ → ℕ → Type 0
 IsKept k x e = StringKept k.index.table.head k.index.start.now k.ids.now x e
+
+abbrev pub IsKept-prop : (k : Kept) (x e : ℕ) → IsProp (IsKept k x e)
+IsKept-prop k x e = StringKept-prop k.index.table.head k.index.start.now k.ids.now x e

@@ -18,7 +18,7 @@ pub struct Word {
     pub j: u32,
 }
 
-// Whether the names at two offsets are the same.
+// Whether the names at two offsets are the same. (`==` of both: take_while up to the 0 of each and `eq` say this in more words.)
 pub fn same_name(b: &Table, p: u32, q: u32) -> bool
     ensures { result ≡ same_bytes (str_at b.now.head b.now.section.now p) (str_at b.now.head b.now.section.now q) }
 {

@@ -1,19 +1,22 @@
 -- Laws for the code that reads qualifiers and bases. Assumes nothing.
 use Rattle.std.specs.Prelude.{Option, Some, None}
-use Rattle.std.specs.Option.{is_some}
-use Prim.Native.Nat.{ℕ, ◌≤◌, ◌<◌}
+use Rattle.std.specs.Option.{is_some, option_eq}
+use Rattle.std.specs.List.{list_any}
+use Prim.Native.Nat.{ℕ, zero, suc, ◌+◌, ◌≤◌, ◌<◌}
 use mathlib.Core.Path.{◌≡◌, refl, ap, sym, ◌∙◌}
-use mathlib.Core.Bool.{Bool, true, false, not, ◌&&◌}
-use mathlib.Core.List.{List, [], ◌∷◌}
+use mathlib.Core.Bool.{Bool, true, false, not, ◌&&◌, ◌||◌, or-true, false≢true}
+use mathlib.Core.List.{List, [], ◌∷◌, ◌++◌, append-nil, append_assoc}
 use borrow.Author.Tests.{not-true, not-false}
-use lib.ListN.{length}
+use lib.ListN.{length, set}
+use native.Mathlib.Omega.{arith}
+use native.Mathlib.Numerals.{add-one}
 use Rattle.std.proofs.Math.Bool.{and-true, and-false, not-not}
 use Rattle.spec_c_dumper.specs.rules.Types.{Qualifier, volatile, const, restrict}
 use Rattle.session_declaration_reader.specs.tokens.Tokens.{Kind, tag_word, void_word, other_word, Token, qual, word, number, mark, rest}
-use Rattle.session_declaration_reader.specs.bases.Bases.{Spelt, spelt, no_quals, void_before, is_qualifier_among, distinct, begins, begins_word, bracketed, qual_run, after_quals, ends_name, word_run, after_words, is_tag, no_tags, single, is_base, words_of, same_qualifier}
+use Rattle.session_declaration_reader.specs.bases.Bases.{Spelt, spelt, void_before, is_qualifier_among, distinct, begins, begins_word, bracketed, qual_run, after_quals, ends_name, word_run, after_words, is_tag, no_tags, single, is_base, words_of, same_qualifier}
 use Rattle.session_declaration_reader.specs.tokens.Looking.{Span, tokens_at, kind_of_qualifier, next_kind, is_word_kind, is_mark_kind, span_of, Looked}
 use Rattle.session_declaration_reader.specs.bases.Items.{first_from, last_to}
-use Rattle.session_declaration_reader.specs.bases.Looking.{qualifier, QualsOf, QualsAt, only_three, Third, is_base_word, BaseWord, AfterWords, begins_base, BaseAt}
+use Rattle.session_declaration_reader.specs.bases.Looking.{qualifier, quals_in, QualsOf, QualsAt, is_base_word, BaseWord, AfterWords, begins_base, BaseAt}
 use Rattle.session_declaration_reader.specs.declared.tokens.Tok.{Tok}
 use Rattle.session_declaration_reader.specs.declared.bases.Quals.{Quals}
 use Rattle.session_declaration_reader.specs.declared.token_kind.Qualifier as declared
@@ -23,14 +26,10 @@ use Rattle.session_declaration_reader.specs.declared.token_kind.TokenKind.TheVar
 use Rattle.session_declaration_reader.specs.declared.token_kind.TokenKind.TheVariants.{End, Tag, Void, Word, Count, Mark}
 use Rattle.session_declaration_reader.specs.contracts.token_kind.Qualifier.{the_type}
 use denote.Enum.Bare.{sameb}
-use Rattle.session_declaration_reader.proofs.tokens.Cases.{false_true, passed, failed}
+use Rattle.session_declaration_reader.proofs.tokens.Cases.{passed, failed}
 
 abbrev Ts : Type 0
 Ts = List (Token Span)
-
-both_true : (a b : Bool) → (a && b) ≡ true → (a ≡ true) × (b ≡ true)
-both_true true b e = (refl, e)
-both_true false b e = absurd (false_true e)
 
 -- kinds
 pub begins_kind : (m : ℕ) (ts : Ts) → begins m ts ≡ is_mark_kind m (next_kind ts)
@@ -134,10 +133,10 @@ pub record Step (n : Bool) (ts : Ts) : Type 0 where
 
 pub step : (n : Bool) (ts : Ts) → is_base_word n ts ≡ true → Step n ts
 unfolding is_base_word begins_word rest next_kind span_of word_run after_words
-step n [] e = absurd (false_true e)
-step n (qual q ∷ ts) e = absurd (false_true e)
-step n (number m ∷ ts) e = absurd (false_true e)
-step n (mark b ∷ ts) e = absurd (false_true e)
+step n [] e = absurd (false≢true e)
+step n (qual q ∷ ts) e = absurd (false≢true e)
+step n (number m ∷ ts) e = absurd (false≢true e)
+step n (mark b ∷ ts) e = absurd (false≢true e)
 step n (word k w ∷ ts) e =
     let f : (n && ends_name ts) ≡ false = not-true (n && ends_name ts) e in
     record {
@@ -214,7 +213,7 @@ module _ (s : List ℕ) (n : Bool) (i : ℕ) (r : Bool) (e : r ≡ is_base_word 
     st = step n (tokens_at s i) (sym e ∙ h)
 
     some_kind : t.kind ≡ End → ⊥
-    some_kind q = false_true (ap is_word_kind (sym q ∙ l.kind_is) ∙ st.some)
+    some_kind q = false≢true (ap is_word_kind (sym q ∙ l.kind_is) ∙ st.some)
 
     pub word_forward : i < t.end
     word_forward = l.forward some_kind
@@ -342,13 +341,13 @@ module _ (m : ℕ) where
       ap (is_mark_kind m) (q ∙ ap next_kind u) ∙ sym (begins_kind m (rest ts)) ∙ go ts (ap is_void_kind (sym e ∙ v))
     where
       go : (ts : Ts) → is_void_kind (next_kind ts) ≡ true → begins m (rest ts) ≡ void_before m ts
-      go [] h = absurd (false_true h)
-      go (qual q ∷ ts) h = absurd (false_true h)
-      go (word tag_word w ∷ ts) h = absurd (false_true h)
+      go [] h = absurd (false≢true h)
+      go (qual q ∷ ts) h = absurd (false≢true h)
+      go (word tag_word w ∷ ts) h = absurd (false≢true h)
       go (word void_word w ∷ ts) h = refl
-      go (word other_word w ∷ ts) h = absurd (false_true h)
-      go (number n ∷ ts) h = absurd (false_true h)
-      go (mark b ∷ ts) h = absurd (false_true h)
+      go (word other_word w ∷ ts) h = absurd (false≢true h)
+      go (number n ∷ ts) h = absurd (false≢true h)
+      go (mark b ∷ ts) h = absurd (false≢true h)
 
 -- qualifiers
 pub record QStep (a : declared.Qualifier) (ts : Ts) : Type 0 where
@@ -362,15 +361,15 @@ back restrict = refl
 
 qstep : (a : declared.Qualifier) (ts : Ts) → kinds.Qualifier a ≡ next_kind ts → QStep a ts
 unfolding next_kind qual_run after_quals rest
-qstep a [] e = absurd (false_true (sym (ap is_qualifier_kind e)))
+qstep a [] e = absurd (false≢true (sym (ap is_qualifier_kind e)))
 qstep a (qual q ∷ ts) e =
     let p : a ≡ kind_of_qualifier q = cc in
     record { run_is = ap (λ x. x ∷ qual_run ts) (sym (ap qualifier p ∙ back q)); after_is = refl }
-qstep a (word tag_word w ∷ ts) e = absurd (false_true (sym (ap is_qualifier_kind e)))
-qstep a (word void_word w ∷ ts) e = absurd (false_true (sym (ap is_qualifier_kind e)))
-qstep a (word other_word w ∷ ts) e = absurd (false_true (sym (ap is_qualifier_kind e)))
-qstep a (number n ∷ ts) e = absurd (false_true (sym (ap is_qualifier_kind e)))
-qstep a (mark b ∷ ts) e = absurd (false_true (sym (ap is_qualifier_kind e)))
+qstep a (word tag_word w ∷ ts) e = absurd (false≢true (sym (ap is_qualifier_kind e)))
+qstep a (word void_word w ∷ ts) e = absurd (false≢true (sym (ap is_qualifier_kind e)))
+qstep a (word other_word w ∷ ts) e = absurd (false≢true (sym (ap is_qualifier_kind e)))
+qstep a (number n ∷ ts) e = absurd (false≢true (sym (ap is_qualifier_kind e)))
+qstep a (mark b ∷ ts) e = absurd (false≢true (sym (ap is_qualifier_kind e)))
 
 abbrev NoQual : TokenKind → Type 0
 NoQual k = (x : declared.Qualifier) → k ≡ kinds.Qualifier x → ⊥
@@ -382,14 +381,6 @@ qover (qual q ∷ ts) k e n = absurd (n (kind_of_qualifier q) e)
 qover (word j w ∷ ts) k e n = (refl, refl)
 qover (number m ∷ ts) k e n = (refl, refl)
 qover (mark b ∷ ts) k e n = (refl, refl)
-
-stopped : (ts : Ts) → no_quals (qual_run ts) ≡ true → (qual_run ts ≡ []) × (after_quals ts ≡ ts)
-unfolding qual_run after_quals
-stopped [] e = (refl, refl)
-stopped (qual q ∷ ts) e = absurd (false_true e)
-stopped (word j w ∷ ts) e = (refl, refl)
-stopped (number m ∷ ts) e = (refl, refl)
-stopped (mark b ∷ ts) e = (refl, refl)
 
 abbrev alike : declared.Qualifier → declared.Qualifier → Bool
 alike a b = same_qualifier (qualifier a) (qualifier b)
@@ -409,158 +400,201 @@ same a b r e = go a b ∙ sym e
     go Restrict Volatile = refl
     go Restrict Restrict = refl
 
-first_two : (p q : Qualifier) (qs : List Qualifier) → same_qualifier p q ≡ true → distinct (p ∷ q ∷ qs) ≡ false
-unfolding distinct is_qualifier_among
-first_two p q qs e = rw e
-
-abbrev mk : Option declared.Qualifier → Option declared.Qualifier → Option declared.Qualifier → ℕ → Quals
-mk a b c e = record { list = a ∷ b ∷ c ∷ []; end = e }
-
 ends_two : (a b : Bool) → (not a && (not b && false)) ≡ false
 ends_two a b = ap (λ (t : Bool). not a && t) (and-false (not b)) ∙ and-false (not a)
 
 -- four qualifiers are never distinct
 four : (p q r x : Qualifier) (qs : List Qualifier) → same_qualifier p q ≡ false → same_qualifier p r ≡ false → same_qualifier q r ≡ false → distinct (p ∷ q ∷ r ∷ x ∷ qs) ≡ false
 unfolding distinct is_qualifier_among
-four volatile volatile r x qs e f g = absurd (false_true (sym e))
-four volatile const volatile x qs e f g = absurd (false_true (sym f))
-four volatile const const x qs e f g = absurd (false_true (sym g))
+four volatile volatile r x qs e f g = absurd (false≢true (sym e))
+four volatile const volatile x qs e f g = absurd (false≢true (sym f))
+four volatile const const x qs e f g = absurd (false≢true (sym g))
 four volatile const restrict volatile qs e f g = refl
 four volatile const restrict const qs e f g = and-false (not (is_qualifier_among volatile qs))
 four volatile const restrict restrict qs e f g = ends_two (is_qualifier_among volatile qs) (is_qualifier_among const qs)
-four volatile restrict volatile x qs e f g = absurd (false_true (sym f))
+four volatile restrict volatile x qs e f g = absurd (false≢true (sym f))
 four volatile restrict const volatile qs e f g = refl
 four volatile restrict const const qs e f g = ends_two (is_qualifier_among volatile qs) (is_qualifier_among restrict qs)
 four volatile restrict const restrict qs e f g = and-false (not (is_qualifier_among volatile qs))
-four volatile restrict restrict x qs e f g = absurd (false_true (sym g))
-four const volatile volatile x qs e f g = absurd (false_true (sym g))
-four const volatile const x qs e f g = absurd (false_true (sym f))
+four volatile restrict restrict x qs e f g = absurd (false≢true (sym g))
+four const volatile volatile x qs e f g = absurd (false≢true (sym g))
+four const volatile const x qs e f g = absurd (false≢true (sym f))
 four const volatile restrict volatile qs e f g = and-false (not (is_qualifier_among const qs))
 four const volatile restrict const qs e f g = refl
 four const volatile restrict restrict qs e f g = ends_two (is_qualifier_among const qs) (is_qualifier_among volatile qs)
-four const const r x qs e f g = absurd (false_true (sym e))
+four const const r x qs e f g = absurd (false≢true (sym e))
 four const restrict volatile volatile qs e f g = ends_two (is_qualifier_among const qs) (is_qualifier_among restrict qs)
 four const restrict volatile const qs e f g = refl
 four const restrict volatile restrict qs e f g = and-false (not (is_qualifier_among const qs))
-four const restrict const x qs e f g = absurd (false_true (sym f))
-four const restrict restrict x qs e f g = absurd (false_true (sym g))
-four restrict volatile volatile x qs e f g = absurd (false_true (sym g))
+four const restrict const x qs e f g = absurd (false≢true (sym f))
+four const restrict restrict x qs e f g = absurd (false≢true (sym g))
+four restrict volatile volatile x qs e f g = absurd (false≢true (sym g))
 four restrict volatile const volatile qs e f g = and-false (not (is_qualifier_among restrict qs))
 four restrict volatile const const qs e f g = ends_two (is_qualifier_among restrict qs) (is_qualifier_among volatile qs)
 four restrict volatile const restrict qs e f g = refl
-four restrict volatile restrict x qs e f g = absurd (false_true (sym f))
+four restrict volatile restrict x qs e f g = absurd (false≢true (sym f))
 four restrict const volatile volatile qs e f g = ends_two (is_qualifier_among restrict qs) (is_qualifier_among const qs)
 four restrict const volatile const qs e f g = and-false (not (is_qualifier_among restrict qs))
 four restrict const volatile restrict qs e f g = refl
-four restrict const const x qs e f g = absurd (false_true (sym g))
-four restrict const restrict x qs e f g = absurd (false_true (sym f))
-four restrict restrict r x qs e f g = absurd (false_true (sym e))
+four restrict const const x qs e f g = absurd (false≢true (sym g))
+four restrict const restrict x qs e f g = absurd (false≢true (sym f))
+four restrict restrict r x qs e f g = absurd (false≢true (sym e))
 
-three_distinct : (p q r : Qualifier) (xs : List Qualifier) → same_qualifier p q ≡ false → (a b : Bool) → same_qualifier p r ≡ a → same_qualifier q r ≡ b
-    → distinct (p ∷ q ∷ r ∷ xs) ≡ (not a && not b && no_quals xs)
+both_false : (a b : Bool) → (a || b) ≡ false → (a ≡ false) × (b ≡ false)
+both_false true b e = absurd (false≢true (sym e))
+both_false false b e = (refl, e)
+
+same_sym : (p q : Qualifier) → same_qualifier p q ≡ same_qualifier q p
+same_sym volatile volatile = refl
+same_sym volatile const = refl
+same_sym volatile restrict = refl
+same_sym const volatile = refl
+same_sym const const = refl
+same_sym const restrict = refl
+same_sym restrict volatile = refl
+same_sym restrict const = refl
+same_sym restrict restrict = refl
+
+is_same : (p q : Qualifier) → same_qualifier p q ≡ true → p ≡ q
+is_same volatile volatile e = refl
+is_same volatile const e = absurd (false≢true e)
+is_same volatile restrict e = absurd (false≢true e)
+is_same const volatile e = absurd (false≢true e)
+is_same const const e = refl
+is_same const restrict e = absurd (false≢true e)
+is_same restrict volatile e = absurd (false≢true e)
+is_same restrict const e = absurd (false≢true e)
+is_same restrict restrict e = refl
+
+among_end : (q : Qualifier) (ps qs : List Qualifier) → is_qualifier_among q (ps ++ q ∷ qs) ≡ true
+unfolding is_qualifier_among
+among_end volatile [] qs = refl
+among_end const [] qs = refl
+among_end restrict [] qs = refl
+among_end q (p ∷ ps) qs = rw (among_end q ps qs) (or-true (same_qualifier q p))
+
+-- one that stands among others before it
+twice : (ps : List Qualifier) (q : Qualifier) (qs : List Qualifier) → is_qualifier_among q ps ≡ true → distinct (ps ++ q ∷ qs) ≡ false
 unfolding distinct is_qualifier_among
-three_distinct p q r xs e true b f g = rw (e, f)
-three_distinct p q r xs e false true f g = rw (e, f, g) (and-false (not (is_qualifier_among p xs)))
-three_distinct p q r xs e false false f g = go xs
+twice [] q qs e = absurd (false≢true e)
+twice (p ∷ ps) q qs e = go (same_qualifier q p) refl (λ h. twice ps q qs h)
   where
-    go : (xs : List Qualifier) → distinct (p ∷ q ∷ r ∷ xs) ≡ no_quals xs
-    go [] = rw (e, f, g)
-    go (x ∷ xs) = four p q r x xs e f g
+    go : (b : Bool) → same_qualifier q p ≡ b → (is_qualifier_among q ps ≡ true → distinct (ps ++ q ∷ qs) ≡ false) → distinct ((p ∷ ps) ++ q ∷ qs) ≡ false
+    go true h f =
+        let g : is_qualifier_among p (ps ++ q ∷ qs) ≡ true = ap (λ (x : Qualifier). is_qualifier_among x (ps ++ q ∷ qs)) (sym (is_same q p h)) ∙ among_end q ps qs in
+        ap (λ (b : Bool). not b && distinct (ps ++ q ∷ qs)) g
+    go false h f =
+        let g : is_qualifier_among q ps ≡ true = sym (ap (λ (b : Bool). b || is_qualifier_among q ps) h) ∙ e in
+        ap (λ (b : Bool). not (is_qualifier_among p (ps ++ q ∷ qs)) && b) (f g) ∙ and-false (not (is_qualifier_among p (ps ++ q ∷ qs)))
 
-module _ (s : List ℕ) (at : ℕ) (t : Tok) (l : Looked s at t) where
-  pub quals_none : NoQual t.kind → QualsAt s at (Some (mk None None None at))
-  unfolding distinct
-  quals_none f =
-      let o = qover (tokens_at s at) t.kind l.kind_is f in
-      record { apart = ap distinct o.0; list_is = sym o.0; rest_is = sym o.1 }
+unlike : (q p : Qualifier) (ps : List Qualifier) → is_qualifier_among q (p ∷ ps) ≡ false → (same_qualifier p q ≡ false) × (is_qualifier_among q ps ≡ false)
+unfolding is_qualifier_among
+unlike q p ps e = let h = both_false (same_qualifier q p) (is_qualifier_among q ps) e in (same_sym p q ∙ h.0, h.1)
 
-  module _ (a : declared.Qualifier) (y : t.kind ≡ kinds.Qualifier a) where
-    q₁ : QStep a (tokens_at s at)
-    q₁ = qstep a (tokens_at s at) (sym y ∙ l.kind_is)
+abbrev Slots : Type 0
+Slots = List (Option declared.Qualifier)
 
-    run₁ : qual_run (tokens_at s at) ≡ qualifier a ∷ qual_run (tokens_at s t.end)
-    run₁ = q₁.run_is ∙ ap (λ (x : Ts). qualifier a ∷ qual_run x) (sym l.rest_is)
+-- the code's test of a qualifier and those before it
+among_is : (l : Slots) (q : declared.Qualifier) → list_any (λ y. option_eq (sameb the_type) y (Some q)) l ≡ is_qualifier_among (qualifier q) (quals_in l)
+unfolding is_qualifier_among
+among_is [] q = refl
+among_is (None ∷ l) q = among_is l q
+among_is (Some a ∷ l) q = rw (among_is l q, sym (same a q (sameb the_type a q) refl), same_sym (qualifier a) (qualifier q))
 
-    after₁ : after_quals (tokens_at s at) ≡ after_quals (tokens_at s t.end)
-    after₁ = q₁.after_is ∙ ap after_quals (sym l.rest_is)
+-- one, two or three qualifiers, which differ, and none behind them
+pub record One (l : Slots) : Type 0 where
+  pub a : declared.Qualifier
+  pub list_is : l ≡ Some a ∷ None ∷ None ∷ []
 
-    module _ (u : Tok) (m : Looked s t.end u) where
-      pub quals_one : NoQual u.kind → QualsAt s at (Some (mk (Some a) None None t.end))
-      unfolding distinct is_qualifier_among
-      quals_one f =
-          let o = qover (tokens_at s t.end) u.kind m.kind_is f in
-          let run : qual_run (tokens_at s at) ≡ qualifier a ∷ [] = run₁ ∙ ap (λ (x : List Qualifier). qualifier a ∷ x) o.0 in
-          record { apart = ap distinct run; list_is = sym run; rest_is = sym (after₁ ∙ o.1) }
+pub record Two (l : Slots) : Type 0 where
+  pub a : declared.Qualifier
+  pub b : declared.Qualifier
+  pub list_is : l ≡ Some a ∷ Some b ∷ None ∷ []
+  pub ab : alike a b ≡ false
 
-      module _ (b : declared.Qualifier) (y₂ : u.kind ≡ kinds.Qualifier b) where
-        q₂ : QStep b (tokens_at s t.end)
-        q₂ = qstep b (tokens_at s t.end) (sym y₂ ∙ m.kind_is)
+pub record Three (l : Slots) : Type 0 where
+  pub a : declared.Qualifier
+  pub b : declared.Qualifier
+  pub c : declared.Qualifier
+  pub list_is : l ≡ Some a ∷ Some b ∷ Some c ∷ []
+  pub ab : alike a b ≡ false
+  pub ac : alike a c ≡ false
+  pub bc : alike b c ≡ false
 
-        run₂ : qual_run (tokens_at s at) ≡ qualifier a ∷ qualifier b ∷ qual_run (tokens_at s u.end)
-        run₂ = run₁ ∙ ap (λ (x : List Qualifier). qualifier a ∷ x) (q₂.run_is ∙ ap (λ (x : Ts). qualifier b ∷ qual_run x) (sym m.rest_is))
+abbrev pub Front : ℕ → Slots → Type 0
+Front zero l = l ≡ None ∷ None ∷ None ∷ []
+Front (suc zero) l = One l
+Front (suc (suc zero)) l = Two l
+Front (suc (suc (suc n))) l = Three l
 
-        after₂ : after_quals (tokens_at s at) ≡ after_quals (tokens_at s u.end)
-        after₂ = after₁ ∙ q₂.after_is ∙ ap after_quals (sym m.rest_is)
+front_apart : (i : ℕ) (l : Slots) → Front i l → distinct (quals_in l) ≡ true
+unfolding distinct is_qualifier_among
+front_apart zero l f = ap (λ (x : Slots). distinct (quals_in x)) f
+front_apart (suc zero) l f = ap (λ (x : Slots). distinct (quals_in x)) f.list_is
+front_apart (suc (suc zero)) l f = ap (λ (x : Slots). distinct (quals_in x)) f.list_is ∙ rw f.ab
+front_apart (suc (suc (suc n))) l f = ap (λ (x : Slots). distinct (quals_in x)) f.list_is ∙ rw (f.ab, f.ac, f.bc)
 
-        pub quals_twice : true ≡ sameb the_type a b → QualsAt s at None
-        quals_twice q = ap distinct run₂ ∙ first_two (qualifier a) (qualifier b) (qual_run (tokens_at s u.end)) (same a b true q)
+-- one more, which differs from those before it
+record More (i : ℕ) (l : Slots) (q : declared.Qualifier) : Type 0 where
+  front : Front (suc i) (set l i (Some q))
+  list_is : quals_in (set l i (Some q)) ≡ quals_in l ++ qualifier q ∷ []
 
-        module _ (n : false ≡ sameb the_type a b) (v : Tok) (k : Looked s u.end v) where
-          apart₂ : alike a b ≡ false
-          apart₂ = same a b false n
+more : (i : ℕ) (l : Slots) (q : declared.Qualifier) → i < 3 → Front i l → is_qualifier_among (qualifier q) (quals_in l) ≡ false → More i l q
+more zero l q h f n = rw f (record { front = record { a = q; list_is = refl }; list_is = refl })
+more (suc zero) l q h f n =
+    let u = unlike (qualifier q) (qualifier f.a) [] (ap (λ (x : Slots). is_qualifier_among (qualifier q) (quals_in x)) (sym f.list_is) ∙ n) in
+    rw f.list_is (record { front = record { a = f.a; b = q; list_is = refl; ab = u.0 }; list_is = refl })
+more (suc (suc zero)) l q h f n =
+    let u = unlike (qualifier q) (qualifier f.a) (qualifier f.b ∷ []) (ap (λ (x : Slots). is_qualifier_among (qualifier q) (quals_in x)) (sym f.list_is) ∙ n) in
+    let v = unlike (qualifier q) (qualifier f.b) [] u.1 in
+    rw f.list_is (record { front = record { a = f.a; b = f.b; c = q; list_is = refl; ab = f.ab; ac = u.0; bc = v.0 }; list_is = refl })
+more (suc (suc (suc n))) l q h f e = absurd (omega arith)
 
-          pub quals_two : NoQual v.kind → QualsAt s at (Some (mk (Some a) (Some b) None u.end))
-          unfolding distinct is_qualifier_among
-          quals_two f =
-              let o = qover (tokens_at s u.end) v.kind k.kind_is f in
-              let run : qual_run (tokens_at s at) ≡ qualifier a ∷ qualifier b ∷ [] = run₂ ∙ ap (λ (x : List Qualifier). qualifier a ∷ qualifier b ∷ x) o.0 in
-              let d : distinct (qualifier a ∷ qualifier b ∷ []) ≡ true = rw apart₂ in
-              record { apart = ap distinct run ∙ d; list_is = sym run; rest_is = sym (after₂ ∙ o.1) }
+-- the qualifiers that were read before a place
+pub record Gathered (s : List ℕ) (at i : ℕ) (l : Slots) (end : ℕ) : Type 0 where
+  pub run_is : qual_run (tokens_at s at) ≡ quals_in l ++ qual_run (tokens_at s end)
+  pub after_is : after_quals (tokens_at s at) ≡ after_quals (tokens_at s end)
+  pub front : Front i l
 
-          module _ (c : declared.Qualifier) (y₃ : v.kind ≡ kinds.Qualifier c) where
-            q₃ : QStep c (tokens_at s u.end)
-            q₃ = qstep c (tokens_at s u.end) (sym y₃ ∙ k.kind_is)
+pub gathered_none : (s : List ℕ) (at : ℕ) → Gathered s at 0 (None ∷ None ∷ None ∷ []) at
+gathered_none s at = record { run_is = refl; after_is = refl; front = refl }
 
-            run₃ : qual_run (tokens_at s at) ≡ qualifier a ∷ qualifier b ∷ qualifier c ∷ qual_run (tokens_at s v.end)
-            run₃ = run₂ ∙ ap (λ (x : List Qualifier). qualifier a ∷ qualifier b ∷ x) (q₃.run_is ∙ ap (λ (x : Ts). qualifier c ∷ qual_run x) (sym k.rest_is))
+module _ (s : List ℕ) (at i : ℕ) (l : Slots) (end : ℕ) (g : Gathered s at i l end) (t : Tok) (k : Looked s end t) where
+  -- no other follows
+  pub gathered_all : NoQual t.kind → QualsAt s at (Some (record { list = l; end = end }))
+  gathered_all f =
+      let o = qover (tokens_at s end) t.kind k.kind_is f in
+      let run : qual_run (tokens_at s at) ≡ quals_in l = g.run_is ∙ ap (λ (x : List Qualifier). quals_in l ++ x) o.0 ∙ append-nil (quals_in l) in
+      record { apart = ap distinct run ∙ front_apart i l g.front; list_is = sym run; rest_is = sym (g.after_is ∙ o.1) }
 
-            after₃ : after_quals (tokens_at s at) ≡ after_quals (tokens_at s v.end)
-            after₃ = after₂ ∙ q₃.after_is ∙ ap after_quals (sym k.rest_is)
+  -- another follows
+  module _ (q : declared.Qualifier) (y : t.kind ≡ kinds.Qualifier q) where
+    next : QStep q (tokens_at s end)
+    next = qstep q (tokens_at s end) (sym y ∙ k.kind_is)
 
-            ok₃ : distinct (qual_run (tokens_at s at)) ≡ only_three s a b c v.end
-            ok₃ =
-                ap distinct run₃
-                ∙ three_distinct (qualifier a) (qualifier b) (qualifier c) (qual_run (tokens_at s v.end)) apart₂ (alike a c) (alike b c) refl refl
+    run : qual_run (tokens_at s at) ≡ quals_in l ++ qualifier q ∷ qual_run (tokens_at s t.end)
+    run = g.run_is ∙ ap (λ (x : List Qualifier). quals_in l ++ x) (next.run_is ∙ ap (λ (x : Ts). qualifier q ∷ qual_run x) (sym k.rest_is))
 
-            pub quals_three : (x : Option Quals) → Third s a b c v.end x → QualsAt s at x
-            unfolding Third
-            quals_three (Some x) z =
-                let o = stopped (tokens_at s v.end) (both_true (not (alike a c) && not (alike b c)) (no_quals (qual_run (tokens_at s v.end))) z.0).1 in
-                record {
-                  apart = ok₃ ∙ z.0;
-                  list_is = z.1 ∙ sym (run₃ ∙ ap (λ (y : List Qualifier). qualifier a ∷ qualifier b ∷ qualifier c ∷ y) o.0);
-                  rest_is = ap (tokens_at s) z.2 ∙ sym (after₃ ∙ o.1);
-                }
-            quals_three None z = ok₃ ∙ z
+    pub gathered_twice : (r : Bool) → r ≡ list_any (λ y. option_eq (sameb the_type) y (Some q)) l → r ≡ true → QualsAt s at None
+    gathered_twice r e h = ap distinct run ∙ twice (quals_in l) (qualifier q) (qual_run (tokens_at s t.end)) (sym (among_is l q) ∙ sym e ∙ h)
 
--- a third qualifier
-module _ (s : List ℕ) (a b c : declared.Qualifier) (at : ℕ) where
-  pub third_first : true ≡ sameb the_type a c → Third s a b c at None
-  unfolding Third
-  third_first q = rw (same a c true q)
+    pub gathered_more : i < 3 → (r : Bool) → r ≡ list_any (λ y. option_eq (sameb the_type) y (Some q)) l → r ≡ false → Gathered s at (i + 1) (set l i (Some q)) t.end
+    gathered_more h r e f =
+        let m = more i l q h g.front (sym (among_is l q) ∙ sym e ∙ f) in
+        rw add-one (record {
+          run_is = run ∙ sym (append_assoc (quals_in l) (qualifier q ∷ []) (qual_run (tokens_at s t.end))) ∙ ap (λ (x : List Qualifier). x ++ qual_run (tokens_at s t.end)) (sym m.list_is);
+          after_is = g.after_is ∙ next.after_is ∙ ap after_quals (sym k.rest_is);
+          front = m.front;
+        })
 
-  pub third_second : false ≡ sameb the_type a c → true ≡ sameb the_type b c → Third s a b c at None
-  unfolding Third
-  third_second n q = rw (same a c false n, same b c true q)
-
-  module _ (n₁ : false ≡ sameb the_type a c) (n₂ : false ≡ sameb the_type b c) (t : Tok) (l : Looked s at t) where
-    pub third_fourth : (d : declared.Qualifier) → t.kind ≡ kinds.Qualifier d → Third s a b c at None
-    unfolding Third
-    third_fourth d y = rw (same a c false n₁, same b c false n₂, (qstep d (tokens_at s at) (sym y ∙ l.kind_is)).run_is)
-
-    pub third_good : NoQual t.kind → Third s a b c at (Some (mk (Some a) (Some b) (Some c) at))
-    unfolding Third
-    third_good y = (rw (same a c false n₁, same b c false n₂, (qover (tokens_at s at) t.kind l.kind_is y).0), refl, refl)
+    pub gathered_four : 3 ≤ i → QualsAt s at None
+    gathered_four h = ap distinct run ∙ go i g.front h
+      where
+        go : (i : ℕ) → Front i l → 3 ≤ i → distinct (quals_in l ++ qualifier q ∷ qual_run (tokens_at s t.end)) ≡ false
+        go zero f h = absurd (omega arith)
+        go (suc zero) f h = absurd (omega arith)
+        go (suc (suc zero)) f h = absurd (omega arith)
+        go (suc (suc (suc n))) f h = rw f.list_is (four (qualifier f.a) (qualifier f.b) (qualifier f.c) (qualifier q) (qual_run (tokens_at s t.end)) f.ab f.ac f.bc)
 
 -- a base with its qualifiers
 pub base_quals : (s : List ℕ) (at : ℕ) (n : Bool) → QualsAt s at None → BaseAt s at n None
@@ -589,7 +623,7 @@ module _ (s : List ℕ) (at : ℕ) (n : Bool) (q : Quals) (a : QualsOf s at q) (
     where
       begun : (z : Bool) → is_base_word n (tokens_at s q.end) ≡ z → is_base_word n (tokens_at s q.end) ≡ true
       begun true z = z
-      begun false z = absurd (false_true (base_over s n q.end false (sym z) refl ∙ sym e ∙ g))
+      begun false z = absurd (false≢true (base_over s n q.end false (sym z) refl ∙ sym e ∙ g))
 
 module _ (ts : Ts) (g : TokenKind) (e : g ≡ next_kind ts) where
   kind_begins : (m : ℕ) → begins m ts ≡ is_mark_kind m g

@@ -2,7 +2,7 @@
 use Rattle.std.specs.Prelude.{Some, None}
 use Prim.Native.Nat.{ℕ, zero, suc, ◌-◌, ◌≤◌}
 use mathlib.Core.Path.{◌≡◌, refl, ap, sym, ◌∙◌}
-use mathlib.Core.Bool.{Bool, true, false, ◌&&◌, ◌||◌}
+use mathlib.Core.Bool.{Bool, true, false, ◌&&◌, ◌||◌, false≢true}
 use mathlib.Core.List.{List, [], ◌∷◌, ◌++◌, append_assoc, append-nil}
 use native.Mathlib.Omega.{arith}
 use Rattle.spec_c_dumper.specs.rules.Types.{Qualifier}
@@ -22,7 +22,7 @@ use Rattle.session_declaration_reader.specs.declared.bases.Base.{Base}
 use Rattle.session_declaration_reader.specs.declared.token_kind.TokenKind.{TokenKind}
 use Rattle.session_declaration_reader.specs.declared.token_kind.TokenKind.TheVariants as kinds
 use Rattle.session_declaration_reader.specs.declared.token_kind.TokenKind.TheVariants.{End, Tag, Void, Word, Count, Mark}
-use Rattle.session_declaration_reader.proofs.tokens.Cases.{false_true, passed, failed}
+use Rattle.session_declaration_reader.proofs.tokens.Cases.{passed, failed}
 use Rattle.session_declaration_reader.proofs.bases.ItemLaws.{on, placing_on, placing_then}
 use Rattle.session_declaration_reader.proofs.bases.BaseLaws.{begins_kind, word_kind}
 
@@ -192,13 +192,13 @@ unfolding wanted_count next_kind rest
 count_some ts m k e = go ts e (sym (ap is_count_kind e))
   where
     go : (ts : Ts) → Count m ≡ next_kind ts → is_count_kind (next_kind ts) ≡ true → wanted_count ts k ≡ wanted 93 (rest ts) (k m)
-    go [] e h = absurd (false_true h)
-    go (qual q ∷ ts) e h = absurd (false_true h)
-    go (word tag_word w ∷ ts) e h = absurd (false_true h)
-    go (word void_word w ∷ ts) e h = absurd (false_true h)
-    go (word other_word w ∷ ts) e h = absurd (false_true h)
+    go [] e h = absurd (false≢true h)
+    go (qual q ∷ ts) e h = absurd (false≢true h)
+    go (word tag_word w ∷ ts) e h = absurd (false≢true h)
+    go (word void_word w ∷ ts) e h = absurd (false≢true h)
+    go (word other_word w ∷ ts) e h = absurd (false≢true h)
     go (number x ∷ ts) e h = let p : x ≡ m = cc in ap (λ y. wanted 93 ts (k y)) p
-    go (mark b ∷ ts) e h = absurd (false_true h)
+    go (mark b ∷ ts) e h = absurd (false≢true h)
 
 name_fails : {A : Type 0} → (n : Bool) (ts : Ts) (k : Ts → Reads Span A) → n ≡ true → begins_word ts ≡ false → wanted_name n ts k ≡ fails
 unfolding wanted_name

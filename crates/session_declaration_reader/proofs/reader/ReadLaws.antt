@@ -2,14 +2,14 @@
 use Rattle.std.specs.Prelude.{Option, Some, None, is_some, IfSome}
 use Prim.Native.Nat.{ℕ, suc, ◌+◌, ◌≤◌, ◌<◌}
 use mathlib.Core.Path.{◌≡◌, refl, ap, sym, subst, ◌∙◌}
-use mathlib.Core.Bool.{Bool, true, false}
+use mathlib.Core.Bool.{Bool, true, false, false≢true}
 use mathlib.Core.List.{List, [], ◌∷◌, ◌++◌, append-nil, append_assoc}
 use mathlib.Core.Logic.{⊎_elim}
 use native.Mathlib.Omega.{arith}
 use borrow.Author.Tests.{le-leb, lt-leb}
 use lib.ListN.{length, replicate, length-append}
 use lib.Dec.{leb}
-use Rattle.spec_bytes.proofs.words.Laws.{le_or_lt}
+use Rattle.std.proofs.lemmas.Bool.{cases_lt}
 use Rattle.spec_c_dumper.specs.rules.Types.{Qualifier}
 use Rattle.session_declaration_reader.specs.grammar.Chain.{Layers, named, pointer, array, proto, Params, closed, dots, param, Chain, layer_entries, param_entries, entries}
 use Rattle.session_declaration_reader.specs.tokens.Tokens.{Token, qual, word, number, mark, tag_word, void_word, other_word}
@@ -27,7 +27,7 @@ use Rattle.session_declaration_reader.specs.declared.bases.Base.{Base}
 use Rattle.session_declaration_reader.specs.declared.token_kind.TokenKind.{TokenKind}
 use Rattle.session_declaration_reader.specs.declared.token_kind.TokenKind.TheVariants as kinds
 use Rattle.session_declaration_reader.specs.declared.token_kind.TokenKind.TheVariants.{End, Tag, Void, Word, Count, Mark}
-use Rattle.session_declaration_reader.proofs.tokens.Cases.{false_true, passed, failed}
+use Rattle.session_declaration_reader.proofs.tokens.Cases.{passed, failed}
 use Rattle.session_declaration_reader.proofs.bases.ItemLaws.{placing_then, more_few, more_many}
 use Rattle.session_declaration_reader.proofs.grammar.ParseLaws as parse
 
@@ -89,9 +89,9 @@ unfolding reach
 reach_many [] n l h = omega arith
 reach_many (i ∷ is) n l h =
     ⊎_elim
-    (λ k. rw (more_many n k) (reach_many is 513 (omega arith) (omega arith)))
     (λ k. rw (more_few n k) (reach_many is (n + 1) (omega arith) (omega arith)))
-    (le_or_lt 512 n)
+    (λ k. rw (more_many n k) (reach_many is 513 (omega arith) (omega arith)))
+    (cases_lt n 512)
 
 module _ (t : List ℕ) (c : Chain Span) (n : ℕ) (t' : List ℕ) (e : placed n t' ≡ placing t 0 (chain_items c)) where
   reached : n ≡ reach 0 (chain_items c)
@@ -101,21 +101,21 @@ module _ (t : List ℕ) (c : Chain Span) (n : ℕ) (t' : List ℕ) (e : placed n
   unfolding within_most
   few_entries h =
       ⊎_elim
-      (λ k. passed (leb (entries c) 512) (chain c) refused (le-leb (entries c) 512 k))
       (λ k. absurd (omega (arith, reached, reach_many (chain_items c) 0 (omega arith) (omega (arith, chain_size c)))))
-      (le_or_lt (entries c) 512)
+      (λ k. passed (leb (entries c) 512) (chain c) refused (le-leb (entries c) 512 k))
+      (cases_lt 512 (entries c))
 
   many_entries : 512 < n → within_most c ≡ refused
   unfolding within_most
   many_entries h =
       ⊎_elim
-      (λ k. absurd (omega (arith, reached, chain_size c, reach_few 0 (chain_items c) (omega (arith, chain_size c)))))
       (λ k. failed (leb (entries c) 512) (chain c) refused (lt-leb (entries c) 512 k))
-      (le_or_lt (entries c) 512)
+      (λ k. absurd (omega (arith, reached, chain_size c, reach_few 0 (chain_items c) (omega (arith, chain_size c)))))
+      (cases_lt 512 (entries c))
 
 -- a chain has an entry at least
 more_some : (n : ℕ) → 0 < one_more n
-more_some n = ⊎_elim (λ k. omega (arith, more_many n k)) (λ k. omega (arith, more_few n k)) (le_or_lt 512 n)
+more_some n = ⊎_elim (λ k. omega (arith, more_few n k)) (λ k. omega (arith, more_many n k)) (cases_lt n 512)
 
 reach_some : (a : List Item) (i : Item) (n : ℕ) → 0 < reach n (a ++ i ∷ [])
 unfolding reach
@@ -134,12 +134,12 @@ is_end_kind (Mark b) = false
 ends_text : (ts : Ts) → is_end_kind (next_kind ts) ≡ true → ts ≡ []
 unfolding next_kind
 ends_text [] e = refl
-ends_text (qual q ∷ ts) e = absurd (false_true e)
-ends_text (word tag_word w ∷ ts) e = absurd (false_true e)
-ends_text (word void_word w ∷ ts) e = absurd (false_true e)
-ends_text (word other_word w ∷ ts) e = absurd (false_true e)
-ends_text (number n ∷ ts) e = absurd (false_true e)
-ends_text (mark b ∷ ts) e = absurd (false_true e)
+ends_text (qual q ∷ ts) e = absurd (false≢true e)
+ends_text (word tag_word w ∷ ts) e = absurd (false≢true e)
+ends_text (word void_word w ∷ ts) e = absurd (false≢true e)
+ends_text (word other_word w ∷ ts) e = absurd (false≢true e)
+ends_text (number n ∷ ts) e = absurd (false≢true e)
+ends_text (mark b ∷ ts) e = absurd (false≢true e)
 
 goes_on : (c : Chain Span) (ts : Ts) → (next_kind ts ≡ End → ⊥) → whole (reads c ts) ≡ refused
 unfolding whole next_kind
@@ -241,8 +241,8 @@ module _ (s c c₁ : List ℕ) where
       → (count_told r u ≡ read_into s c) × IfSome r (λ n. 0 < n)
   unfolding read_into placed_chain
   read_none None e z u eu l = (ap (placed 0) eu ∙ ap (λ (n : ℕ). placed 0 (replicate n 0)) l ∙ sym (ap (placed_chain c) e), tt)
-  read_none (Some n) e z u eu l = absurd (false_true (sym z))
+  read_none (Some n) e z u eu l = absurd (false≢true (sym z))
 
   pub read_some : (r : Option ℕ) → ReadOut s c r c₁ → is_some r ≡ true → (count_told r c₁ ≡ read_into s c) × IfSome r (λ n. 0 < n)
-  read_some None e z = absurd (false_true z)
+  read_some None e z = absurd (false≢true z)
   read_some (Some n) e z = e

@@ -1,22 +1,29 @@
 -- Laws for the code that tells the tokens of a run of bytes. Assumes nothing.
-use Prim.Native.Nat.{ℕ, suc, ◌+◌, ◌-◌, ◌*◌, ◌≤◌, ◌<◌}
+use Prim.Native.Nat.{ℕ, zero, suc, ◌^◌, ◌≤◌, ◌<◌}
 use mathlib.Core.Path.{◌≡◌, refl, ap, sym, ◌∙◌}
-use mathlib.Core.Bool.{Bool, true, false, not, ◌&&◌, ◌||◌}
+use mathlib.Core.Bool.{Bool, true, false, not, ◌&&◌, ◌||◌, false≢true}
 use mathlib.Core.List.{List, [], ◌∷◌}
 use native.Mathlib.Omega.{arith}
-use native.Mathlib.Numerals.{add-one}
 use borrow.Author.Tests.{lt-ltb, le-ltb, le-leb, lt-leb, leb-true, leb-false, ne_eqb}
-use mathlib.Core.Logic.{◌⊎◌, inl, inr, ⊎_elim}
-use lib.ListN.{length, get_or, drop, drop_of_length-le}
-use lib.Seq.{drop-cons}
-use Rattle.std.specs.Prelude.{Option, Some, None}
+use mathlib.Core.Logic.{◌⊎◌, inl, inr}
+use lib.ListN.{length, get_or}
+use Rattle.std.specs.Prelude.{Some, None}
 use Rattle.std.specs.List.{list_all}
-use Rattle.std.proofs.Math.Bool.{and-true, and-false}
+use Rattle.std.specs.Prelude.{Result, Ok, Err}
+use Rattle.std.specs.Option.{is_some}
+use Rattle.std.specs.Result.{OkIff, MatchResult, result_ok}
+use denote.Bor.{Bor}
+use Rattle.std.specs.Str.{IsUtf8, IsAscii}
+use Rattle.std.specs.Str.Parse.{ParsesUnsigned}
+use Rattle.std.proofs.lemmas.Str.{IsUtf8-from_ascii}
+use Rattle.std.proofs.lemmas.Str.Parse.{IsDigitsTest, IsNumeralModel, numerals_by_fold, parse_digits}
+use Rattle.std.proofs.Common.{rules}
+use Rattle.std.proofs.Math.Bool.{and-false}
 use Rattle.std.specs.Char.{is_ascii_digit}
 use mathlib.Core.Logic.{◌≢◌}
 use lib.Dec.{leb, ltb, eqb}
+use Rattle.std.proofs.lemmas.Bool.{cases_lt}
 use Rattle.spec_bytes.specs.text.Text.{ascii}
-use Rattle.spec_bytes.proofs.words.Laws.{le_or_lt}
 use Rattle.spec_c_dumper.specs.rules.Types.{is_empty, const, volatile, restrict}
 use Rattle.spec_c_dumper.specs.rules.Names.{same_bytes}
 use Rattle.spec_c_dumper.specs.rules.Decl.{qualifier}
@@ -52,76 +59,28 @@ pub word_first : (s : List ℕ) (b : ℕ) (t : List ℕ) → s ≡ b ∷ t → (
 unfolding identifier
 word_first s b t e r l n = n ∙ sym (rw (e, identifier, sym l ∙ n))
 
--- counts: the value from v on
-pub count_from : ℕ → List ℕ → Option ℕ
-count_from v [] = Some v
-count_from v (d ∷ s) =
-    elim (is_digit d) [
-      | true ↦ elim (leb (v * 10 + (d - 48)) 4294967295) [ true ↦ count_from (v * 10 + (d - 48)) s | false ↦ None ]
-      | false ↦ None
-    ]
+-- counts
+digits_are : (s : List ℕ) → list_all is_ascii_digit s ≡ all_of is_digit s
+unfolding all_of
+digits_are [] = refl
+digits_are (b ∷ s) = rw (digit_is b) (ap (λ (t : Bool). is_digit b && t) (digits_are s))
 
-value_grows : (n : ℕ) (s : List ℕ) → n ≤ value_of n s
+are_digits : IsDigitsTest (λ ds. all_of is_digit ds ≡ true)
+unfolding all_of is_digit
+are_digits = search rules
+
+own : IsNumeralModel (λ ds. all_of is_digit ds ≡ true) (value_of 0)
 unfolding value_of
-value_grows n [] = omega arith
-value_grows n (d ∷ s) = omega (arith, value_grows (n * 10 + (d - 48)) s)
+own = numerals_by_fold _ are_digits value_of (search rules)
 
-abbrev counted : ℕ → List ℕ → Option ℕ
-counted v s = elim (all_of is_digit s && leb (value_of v s) 4294967295) [ true ↦ Some (value_of v s) | false ↦ None ]
-
-module _ (v d : ℕ) (s : List ℕ) where
-  count_other : is_digit d ≡ false → count_from v (d ∷ s) ≡ None
-  unfolding count_from
-  count_other e = failed (is_digit d) _ None e
-
-  count_large : is_digit d ≡ true → 4294967295 < v * 10 + (d - 48) → count_from v (d ∷ s) ≡ None
-  unfolding count_from
-  count_large e h = passed (is_digit d) _ None e ∙ failed (leb (v * 10 + (d - 48)) 4294967295) _ None (lt-leb (v * 10 + (d - 48)) 4294967295 h)
-
-  count_small : is_digit d ≡ true → v * 10 + (d - 48) ≤ 4294967295 → count_from v (d ∷ s) ≡ count_from (v * 10 + (d - 48)) s
-  unfolding count_from
-  count_small e h = passed (is_digit d) _ None e ∙ passed (leb (v * 10 + (d - 48)) 4294967295) _ None (le-leb (v * 10 + (d - 48)) 4294967295 h)
-
-  counted_other : is_digit d ≡ false → counted v (d ∷ s) ≡ None
-  unfolding all_of
-  counted_other e = failed (all_of is_digit (d ∷ s) && leb (value_of v (d ∷ s)) 4294967295) (Some (value_of v (d ∷ s))) None (rw e)
-
-  counted_large : 4294967295 < v * 10 + (d - 48) → counted v (d ∷ s) ≡ None
-  unfolding value_of
-  counted_large h =
-      let g : 4294967295 < value_of (v * 10 + (d - 48)) s = omega (arith, value_grows (v * 10 + (d - 48)) s) in
-      failed
-      (all_of is_digit (d ∷ s) && leb (value_of v (d ∷ s)) 4294967295)
-      (Some (value_of v (d ∷ s)))
-      None
-      (ap (λ (t : Bool). all_of is_digit (d ∷ s) && t) (lt-leb (value_of v (d ∷ s)) 4294967295 g) ∙ and-false (all_of is_digit (d ∷ s)))
-
-  counted_small : is_digit d ≡ true → counted (v * 10 + (d - 48)) s ≡ counted v (d ∷ s)
-  unfolding value_of all_of
-  counted_small e =
-      let g : all_of is_digit s ≡ all_of is_digit (d ∷ s) = rw e in
-      ap
-      (λ (t : Bool). elim (t && leb (value_of (v * 10 + (d - 48)) s) 4294967295) [ true ↦ Some (value_of (v * 10 + (d - 48)) s) | false ↦ None ])
-      g
-
-digit_or : (d : ℕ) → (is_digit d ≡ true) ⊎ (is_digit d ≡ false)
-digit_or d = go (is_digit d) refl
+digits_plain : (s : List ℕ) → all_of is_digit s ≡ true → IsAscii s
+unfolding all_of is_digit
+digits_plain s = go s
   where
-    go : (t : Bool) → is_digit d ≡ t → (is_digit d ≡ true) ⊎ (is_digit d ≡ false)
-    go true e = inl e
-    go false e = inr e
-
-count_is : (s : List ℕ) (v : ℕ) → v ≤ 4294967295 → count_from v s ≡ counted v s
-unfolding count_from all_of value_of
-count_is [] v h = sym (passed (leb v 4294967295) (Some v) None (le-leb v 4294967295 h))
-count_is (d ∷ s) v h =
-    ⊎_elim
-    (λ e. ⊎_elim
-    (λ l. count_small v d s e l ∙ count_is s (v * 10 + (d - 48)) l ∙ counted_small v d s e)
-    (λ l. count_large v d s e l ∙ sym (counted_large v d s l))
-    (le_or_lt (v * 10 + (d - 48)) 4294967295))
-    (λ e. count_other v d s e ∙ sym (counted_other v d s e))
-    (digit_or d)
+    go : (s : List ℕ) → all_of is_digit s ≡ true → (i : ℕ) → get_or s i 0 < 128
+    go [] e i = omega arith
+    go (d ∷ s) e zero = let p = are_digits.parts d s e in omega (arith, p.0)
+    go (d ∷ s) e (suc i) = go s (are_digits.parts d s e).1 i
 
 pub count_empty : (s : List ℕ) → length s ≡ 0 → None ≡ count_value s
 unfolding count_value is_count
@@ -140,33 +99,49 @@ unfolding is_empty
 no_zeros d [] h = refl
 no_zeros d (b ∷ s) h = rw (ne_eqb d 48 (λ e. absurd (omega (arith, h e))))
 
-pub count_start : (s : List ℕ) → (length s ≡ 0 → ⊥) → (get_or s 0 0 ≡ 48 → length s ≡ 1) → count_from 0 (drop 0 s) ≡ count_value s
-unfolding count_value is_count
-count_start [] n z = absurd (n refl)
-count_start (d ∷ s) n z =
-    count_is (d ∷ s) 0 (omega arith)
-    ∙ ap
-    (λ (t : Bool). elim (t && leb (value_of 0 (d ∷ s)) 4294967295) [ true ↦ Some (value_of 0 (d ∷ s)) | false ↦ None ])
-    (sym (ap (λ (t : Bool). all_of is_digit (d ∷ s) && t) (no_zeros d s z) ∙ and-true (all_of is_digit (d ∷ s))))
+no_count : (s : List ℕ) → all_of is_digit s ≡ false → is_count s ≡ false
+unfolding is_count
+no_count [] h = refl
+no_count (d ∷ s) h = ap (λ (t : Bool). t && (is_empty s || not (eqb d 48)) && leb (value_of 0 (d ∷ s)) 4294967295) h
 
-module _ (s : List ℕ) (i v : ℕ) (x : Option ℕ) (inv : count_from v (drop i s) ≡ x) (h : i < length s) (r : Bool) (e : r ≡ is_digit (get_or s i 0)) where
-  here : count_from v (drop i s) ≡ count_from v (get_or s i 0 ∷ drop (suc i) s)
-  here = ap (count_from v) (drop-cons s i 0 h)
+a_count : (s : List ℕ) → all_of is_digit s ≡ true → (length s ≡ 0 → ⊥) → (get_or s 0 0 ≡ 48 → length s ≡ 1) → is_count s ≡ leb (value_of 0 s) 4294967295
+unfolding is_count
+a_count [] h n z = absurd (n refl)
+a_count (d ∷ s) h n z = rw (h, no_zeros d s z)
 
-  pub count_turn : r ≡ true → (w : ℕ) → w ≡ v * 10 + (get_or s i 0 - 48) → w ≤ 4294967295 → count_from w (drop (i + 1) s) ≡ x
-  count_turn t w p l =
-      ap (λ (n : ℕ). count_from n (drop (i + 1) s)) p
-      ∙ rw add-one (sym (here ∙ count_small v (get_or s i 0) (drop (suc i) s) (sym e ∙ t) (omega (arith, p, l))) ∙ inv)
+count_read : (s : List ℕ) → is_count s ≡ leb (value_of 0 s) 4294967295 → (E : Type 0) (x : Result ℕ E) → OkIff x ((0 < length s) × (value_of 0 s < 2 ^ 32)) (value_of 0 s) → 0 < length s → result_ok x ≡ count_value s
+unfolding count_value
+count_read s g E (Ok v) p h = ap Some p.1 ∙ sym (passed (is_count s) (Some (value_of 0 s)) None (g ∙ le-leb (value_of 0 s) 4294967295 (omega (arith, p.0.1))))
+count_read s g E (Err e) p h = sym (failed (is_count s) (Some (value_of 0 s)) None (g ∙ lt-leb (value_of 0 s) 4294967295 (go (cases_lt 4294967295 (value_of 0 s)))))
+  where
+    go : (4294967295 < value_of 0 s) ⊎ (value_of 0 s ≤ 4294967295) → 4294967295 < value_of 0 s
+    go (inl k) = k
+    go (inr k) = absurd (p (h, omega (arith, k)))
 
-  pub count_fails : r ≡ false → None ≡ x
-  count_fails t = sym (here ∙ count_other v (get_or s i 0) (drop (suc i) s) (sym e ∙ t)) ∙ inv
+-- what `from_utf8` gives: a text is its bytes, and no text is of no text's bytes
+pub text_is : (s : List ℕ) (E : Type 0) (x : Result (Bor (List ℕ)) E) (t : Bor (List ℕ)) (U : Type 0) (Q : E → Type 0) → Some t ≡ result_ok x → MatchResult x (λ b. (b.now ≡ s) × U) Q → t.now ≡ s
+text_is s E (Ok b) t U Q e m = let p : t ≡ b = cc in ap (λ (z : Bor (List ℕ)). z.now) p ∙ m.0
+text_is s E (Err y) t U Q e m = absurd (false≢true (sym (ap is_some e)))
 
-  pub count_over : r ≡ true → 4294967295 < v * 10 + (get_or s i 0 - 48) → None ≡ x
-  count_over t l = sym (here ∙ count_large v (get_or s i 0) (drop (suc i) s) (sym e ∙ t) l) ∙ inv
+pub is_text : (B E : Type 0) (x : Result B E) (P : B → Type 0) (U : Type 0) (Q : E → Type 0) → U → MatchResult x P (λ e. (U → ⊥) × Q e) → None ≡ result_ok x → ⊥
+is_text B E (Ok b) P U Q u m e = false≢true (ap is_some e)
+is_text B E (Err y) P U Q u m e = m.0 u
 
-pub count_end : (s : List ℕ) (i v : ℕ) (x : Option ℕ) → count_from v (drop i s) ≡ x → length s ≤ i → Some v ≡ x
-unfolding count_from
-count_end s i v x inv h = rw (drop_of_length-le s h) at inv
+module _ (s : List ℕ) (a : Bool) (e : a ≡ list_all is_ascii_digit s) where
+  pub count_other : a ≡ false → None ≡ count_value s
+  unfolding count_value
+  count_other f = sym (failed (is_count s) (Some (value_of 0 s)) None (no_count s (sym (e ∙ digits_are s) ∙ f)))
+
+  module _ (f : a ≡ true) where
+    digits : all_of is_digit s ≡ true
+    digits = sym (e ∙ digits_are s) ∙ f
+
+    -- digits are a text
+    pub count_text : IsUtf8 s
+    count_text = IsUtf8-from_ascii s (digits_plain s digits)
+
+    pub count_parsed : (length s ≡ 0 → ⊥) → (get_or s 0 0 ≡ 48 → length s ≡ 1) → (E : Type 0) (x : Result ℕ E) → ParsesUnsigned 32 10 s x → result_ok x ≡ count_value s
+    count_parsed n z E x p = count_read s (a_count s digits n z) E x (parse_digits own 32 s x p digits) (omega (arith, n))
 
 -- the token of a run, whatever its word is kept as
 abbrev shape : {W : Type 0} → Bool → Bool → Bool → Bool → Bool → Bool → Kind → ℕ → W → Token W

@@ -2,7 +2,7 @@
 use Prim.Native.Nat.{ℕ, suc, ◌+◌, ◌-◌, ◌≤◌, ◌<◌}
 use Prim.Native.Nat.{zero}
 use mathlib.Core.Path.{◌≡◌, refl, ap, sym, subst, ◌∙◌}
-use mathlib.Core.Bool.{Bool, true, false, not}
+use mathlib.Core.Bool.{Bool, true, false, not, false≢true}
 use mathlib.Core.Logic.{⊎_elim}
 use Rattle.std.specs.Prelude.{Option, Some, None, cond, position, unwrap_or, nat_lt}
 use Rattle.std.specs.List.{position_or_len}
@@ -15,12 +15,12 @@ use borrow.Author.Tests.{ne_eqb, eqb-true, not-true, not-false}
 use lib.ListN.{length, get_or, take, drop, length-drop, length-take, drop_of_length-le}
 use lib.Seq.{drop-cons, take-suc, get_or-drop}
 use lib.Dec.{eqb}
+use Rattle.std.proofs.lemmas.Bool.{cases_lt}
 use Rattle.session_declaration_reader.specs.tokens.Tokens.{Token, mark, in_run, is_word_byte, is_letter, is_digit, run_token, lone, ended, tokens, rest}
 use Rattle.session_declaration_reader.specs.tokens.Looking.{Span, places, tokens_at, next_kind, span_of, Looked, Skipped, Ran, run_kind}
 use Rattle.session_declaration_reader.specs.declared.token_kind.TokenKind.{TokenKind}
 use Rattle.session_declaration_reader.specs.declared.token_kind.TokenKind.TheVariants.{End, Mark}
-use Rattle.spec_bytes.proofs.words.Laws.{le_or_lt}
-use Rattle.session_declaration_reader.proofs.tokens.Cases.{false_true, passed, failed}
+use Rattle.session_declaration_reader.proofs.tokens.Cases.{passed, failed}
 use Rattle.session_declaration_reader.proofs.tokens.Bytes.{kind_any, span_any}
 
 abbrev tk : List ℕ → List ℕ → List ℕ → List (Token Span)
@@ -83,7 +83,7 @@ pub skipped : (s : List ℕ) (at : ℕ) (r : List ℕ) → r ≡ drop at s → (
 skipped s at r er o eo n en = record {
   forward = omega arith;
   same_tokens = spaces_to s at n (λ k h. sym (there k) ∙ space (get_or r k 0) (before_first no_space r o n eo en k h)) (omega (arith, first_inside no_space r o n eo en, size));
-  no_space = λ h e. false_true (sym (ap no_space (there n ∙ e)) ∙ at_first no_space r o n eo en (omega (arith, h, size)));
+  no_space = λ h e. false≢true (sym (ap no_space (there n ∙ e)) ∙ at_first no_space r o n eo en (omega (arith, h, size)));
 }
   where
     size : length r ≡ length s - at
@@ -172,9 +172,9 @@ pub run_to : (s : List ℕ) (at : ℕ) → at < length s → in_run (get_or s at
     → (r : List ℕ) → r ≡ drop at s → (o : Option ℕ) → o ≡ position no_run r → (n : ℕ) → n ≡ unwrap_or o (length r) → Ran s at (at + n)
 run_to s at h t r er o eo n en =
     ⊎_elim
-    (λ k. run_ends s at (at + n) some inside runs k)
     (λ k. run_stops s at (at + n) some inside runs k (not-true _ (sym (ap no_run (there n)) ∙ at_first no_run r o n eo en (omega (arith, k, size)))))
-    (le_or_lt (length s) (at + n))
+    (λ k. run_ends s at (at + n) some inside runs k)
+    (cases_lt (at + n) (length s))
   where
     size : length r ≡ length s - at
     size = ap length er ∙ length-drop at s
@@ -192,7 +192,7 @@ run_to s at h t r er o eo n en =
         go : (m : ℕ) → m ≡ n → at < at + n
         go zero e =
             let q : at + n ≡ at = omega (arith, e) in
-            absurd (false_true (sym (ap not t) ∙ (sym (ap (λ (i : ℕ). no_run (get_or s i 0)) q) ∙ (sym (ap no_run (there n)) ∙ at_first no_run r o n eo en (omega (arith, e, size))))))
+            absurd (false≢true (sym (ap not t) ∙ (sym (ap (λ (i : ℕ). no_run (get_or s i 0)) q) ∙ (sym (ap no_run (there n)) ∙ at_first no_run r o n eo en (omega (arith, e, size))))))
         go (suc m) e = omega (arith, e)
 
     runs : Running s at (at + n)

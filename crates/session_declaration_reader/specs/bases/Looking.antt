@@ -7,7 +7,7 @@ use Rattle.session_declaration_reader.specs.tokens.Tokens.{Token, rest}
 use Rattle.session_declaration_reader.specs.tokens.Looking.{Span, tokens_at, Looked}
 use Rattle.session_declaration_reader.specs.declared.tokens.Tok.{Tok}
 use Rattle.session_declaration_reader.specs.bases.Bases.{begins_word, ends_name, distinct, qual_run, after_quals, word_run, after_words}
-use Rattle.session_declaration_reader.specs.bases.Bases.{words_of, is_base, same_qualifier, no_quals}
+use Rattle.session_declaration_reader.specs.bases.Bases.{words_of, is_base}
 use Rattle.session_declaration_reader.specs.bases.Items.{Item, item, qual_items, first_from, last_to}
 use Rattle.session_declaration_reader.specs.declared.bases.Quals.{Quals}
 use Rattle.session_declaration_reader.specs.declared.bases.Base.{Base}
@@ -39,18 +39,6 @@ pub record QualsOf (s : List ℕ) (at : ℕ) (q : Quals) : Type 0 where
 abbrev pub QualsAt : List ℕ → ℕ → Option Quals → Type 0
 QualsAt s at (Some q) = QualsOf s at q
 QualsAt s at None = distinct (qual_run (tokens_at s at)) ≡ false
-
--- a third qualifier behind two that differ
-abbrev pub only_three : List ℕ → declared.Qualifier → declared.Qualifier → declared.Qualifier → ℕ → Bool
-only_three s a b c at =
-    not (same_qualifier (qualifier a) (qualifier c))
-    && not (same_qualifier (qualifier b) (qualifier c))
-    && no_quals (qual_run (tokens_at s at))
-
-unfoldable pub Third : List ℕ → declared.Qualifier → declared.Qualifier → declared.Qualifier → ℕ → Option Quals → Type 0
-Third s a b c at (Some q) =
-    (only_three s a b c at ≡ true) × (quals_of q ≡ qualifier a ∷ qualifier b ∷ qualifier c ∷ []) × (q.end ≡ at)
-Third s a b c at None = only_three s a b c at ≡ false
 
 -- whether a word of the base stands next
 unfoldable pub is_base_word : Bool → List (Token Span) → Bool

@@ -12,7 +12,8 @@ use base_bytes::limit;
 // looks at the count once. A refusal here would be one more exit behind each entry that the grammar stores.
 const TOO_MANY: u32 = limit::MOST_CALLS + 1;
 
-// A chain that is being stored: the words lent for it, and how many entries it has so far.
+// A chain that is being stored: the words lent for it, and how many entries it has so far. (Each function that takes it ensures `same`: a
+// struct that holds a `&mut` owes that it is still the same slice.)
 #[derive(Drop)]
 pub struct Chain<'a> {
     pub words: &'a mut [u64],
@@ -20,7 +21,7 @@ pub struct Chain<'a> {
 }
 
 // An entry of a chain. A base: where its words start in the text, and how many bytes they take. An array: its count. A prototype:
-// whether it has parameters.
+// whether it has parameters (a bool, and no two variants: 1 or 0 is what is stored of it).
 #[derive(Clone, Copy)]
 pub enum Entry {
     Base(u64, u64),
@@ -32,23 +33,23 @@ pub enum Entry {
     FollowedBase(u64, u64),
 }
 
-impl Entry {
-    // Its three words: the kind, and two numbers.
-    fn words(self) -> [u64; 3]
-        ensures { result ≡ item_words (item_of self) }
+// Its three words: the kind, and two numbers.
+impl From<Entry> for [u64; 3] {
+    fn from(entry: Entry) -> [u64; 3]
+        ensures { result ≡ item_words (item_of entry) }
     {
-        match self {
+        match entry {
             Entry::Base(start, length) => [1, start, length],
             Entry::Pointer => [2, 0, 0],
             Entry::Array(count) => [3, count as u64, 0],
-            Entry::Prototype(true) => [4, 1, 0],
-            Entry::Prototype(false) => [4, 0, 0],
+            Entry::Prototype(takes) => [4, takes as u64, 0],
             Entry::Qualifier(qualifier) => [5, u64::from(qualifier), 0],
             Entry::FollowedBase(start, length) => [6, start, length],
         }
     }
 }
 
+// (A bool is what `is_mark` tells of the token behind a base; an enum of the two would be made from it, to be matched here alone.)
 fn base_entry(start: u64, length: u64, is_followed: bool) -> Entry
     ensures { item_of result ≡ item (base_code is_followed) start length }
 {
@@ -74,7 +75,7 @@ impl Chain<'_> {
         if self.words.len() < i + 3 {
             return;
         }
-        self.words[i..i + 3].copy_from_slice(&entry.words());
+        self.words[i..i + 3].copy_from_slice(&<[u64; 3]>::from(entry));
     }
 
     fn put_qual(&mut self, qualifier: Option<Qualifier>)

@@ -11,11 +11,13 @@ use lib.Dec.{leb}
 use lib.ListN.{length, drop, get_or}
 use lib.Seq.{drop-set-lt}
 use borrow.Author.Tests.{lt-ltb, le-ltb, le-leb, lt-leb, ne_eqb}
+use Rattle.std.proofs.lemmas.Bool.{cases_lt}
 use Rattle.spec_bytes.specs.words.Words.{get_word, put_word}
-use Rattle.spec_bytes.proofs.words.Laws.{le_or_lt, put_in, put_out, put_length, get_put_same, get_put_other}
+use Rattle.spec_bytes.proofs.words.Laws.{put_in, put_out, put_length, get_put_same, get_put_other}
 use Rattle.spec_c_dumper.specs.rules.Writer.{Ask, got, no, ask_then, checked}
 use Rattle.spec_c_dumper.specs.rules.Types.{Member, BtfType, Void, Int, Ptr, Array, Composite, Enum, Enum64, Fwd, Typedef, Mod, Func, Var, Datasec, FuncProto, Float, DeclTag, TypeTag, Btf}
 use Rattle.spec_c_dumper.specs.rules.Layout.{size_of, get_size_of, end_of}
+use Rattle.spec_c_dumper.proofs.alignment_once.Right.{same_or}
 use Rattle.spec_type_table.specs.Table.{btf_of}
 use Rattle.spec_session.specs.session.Answers.{Accepted, Refused, number_of, value_of}
 use Rattle.spec_session.specs.declared.session.Session.{Session}
@@ -23,7 +25,7 @@ use Rattle.spec_session.specs.session.Turns.{is_current, table_for}
 use Rattle.session_field_at_bit.specs.step.Path.{Shape, plain, through, array, composite, shape_of, is_composite, behind, Step, stay, enter, field, covers, tried, placed, step_in, full, onward, path_from, some_entry, field_path}
 use Rattle.session_field_at_bit.specs.field.Calls.{Found, found_of, put_words, lent_path, field_call}
 use Rattle.session_field_at_bit.specs.field.Leads.{Uncovered, none, next, Leads}
-use Rattle.session_field_at_bit.proofs.field.Sound.{got_same, then_got, zero_or, Tried, entered_or, tried_is, is_covered, by_composite, is_composite_lem, field_plain, field_composite, first_step, sound}
+use Rattle.session_field_at_bit.proofs.field.Sound.{got_same, then_got, Tried, entered_or, tried_is, is_covered, by_composite, is_composite_lem, field_plain, field_composite, first_step, sound}
 
 -- ---- the refusals
 -- 12 or 16
@@ -46,9 +48,9 @@ checked_no : (n c : ℕ) → checked n ≡ no c → Asked c
 unfolding checked
 checked_no n c e =
     ⊎_elim
-    (λ l. let f : checked n ≡ no 16 = rw (le-ltb n 4294967296 l, checked) in inr (sym (no_same 16 c (sym f ∙ e))))
     (λ l. let f : checked n ≡ got n = rw (lt-ltb n 4294967296 l, checked) in absurd (got_no n c (sym f ∙ e)))
-    (le_or_lt 4294967296 n)
+    (λ l. let f : checked n ≡ no 16 = rw (le-ltb n 4294967296 l, checked) in inr (sym (no_same 16 c (sym f ∙ e))))
+    (cases_lt n 4294967296)
 
 module _ (B : Btf) where
   type_asked : (f : ℕ → Ask ℕ) → ((id c : ℕ) → f id ≡ no c → Asked c) → (T : BtfType) (c : ℕ) → size_of B f T ≡ no c → Asked c
@@ -79,7 +81,7 @@ module _ (B : Btf) where
   end_asked : (m : Member) (c : ℕ) → end_of B m ≡ no c → Asked c
   unfolding end_of
   end_asked m c e =
-      zero_or m.bit_size
+      same_or m.bit_size 0
       (λ z.
       let f : end_of B m ≡ ask_then (get_size_of 512 B m.type_id) (λ s. ask_then (checked (8 * s)) (λ bits. checked (m.bit_offset + bits))) = rw (z, end_of) in
       then_no (get_size_of 512 B m.type_id) (λ s. ask_then (checked (8 * s)) (λ bits. checked (m.bit_offset + bits))) c (sym f ∙ e) (size_asked 512 m.type_id c) (λ s q r.
@@ -220,14 +222,14 @@ words_get b i (v ∷ vs) (suc j) h l =
 drop_put : (b : List ℕ) (i v m : ℕ) → i * 4 + 4 ≤ m → drop m (put_word b i v) ≡ drop m b
 drop_put b i v m h =
     ⊎_elim
-    (λ l. ap (drop m) (put_out b i v l))
     (λ l.
     ap (drop m) (put_in b i v l)
     ∙ drop-set-lt m _ (i * 4 + 3) _ (omega arith)
     ∙ drop-set-lt m _ (i * 4 + 2) _ (omega arith)
     ∙ drop-set-lt m _ (i * 4 + 1) _ (omega arith)
     ∙ drop-set-lt m _ (i * 4) _ (omega arith))
-    (le_or_lt (length b / 4) i)
+    (λ l. ap (drop m) (put_out b i v l))
+    (cases_lt i (length b / 4))
 
 words_rest : (b : List ℕ) (i : ℕ) (vs : List ℕ) (m : ℕ) → (i + length vs) * 4 ≤ m → drop m (put_words b i vs) ≡ drop m b
 unfolding put_words
@@ -267,6 +269,7 @@ module _ (B : Btf) (id bit : ℕ) (path : List ℕ) where
   lent_found (no c) e h = absurd (⊎_elim (λ x. omega arith) (λ x. ⊎_elim (λ y. omega arith) (λ y. omega arith) x) (walk_refusals B id bit c e))
   lent_found (got p) e h =
       ⊎_elim
+      (λ l. let f : lent_path path (got p) ≡ found_of (Refused 17 0) path = rw (lt-leb (length p) (length path / 4) l, lent_path) in let y : ◌≡◌ {A = ℕ} 17 0 = sym (ap (λ (x : Found). number_of x.answer) f) ∙ h in absurd (omega arith))
       (λ l.
       let f : lent_path path (got p) ≡ found_of (Accepted (length p)) (put_words path 0 p) = rw (le-leb (length p) (length path / 4) l, lent_path) in
       let s : Leads B id bit p × ((0 < length p) × (length p ≤ 512)) = sound B id bit p e in
@@ -284,8 +287,7 @@ module _ (B : Btf) (id bit : ℕ) (path : List ℕ) where
         entries = λ i k. let o : 0 + i ≡ i = omega arith in ap (get_word (put_words path 0 p)) (sym o) ∙ words_get path 0 p i z k;
         rest_stays = words_rest path 0 p (length p * 4) w;
       }))
-      (λ l. let f : lent_path path (got p) ≡ found_of (Refused 17 0) path = rw (lt-leb (length p) (length path / 4) l, lent_path) in let y : ◌≡◌ {A = ℕ} 17 0 = sym (ap (λ (x : Found). number_of x.answer) f) ∙ h in absurd (omega arith))
-      (le_or_lt (length p) (length path / 4))
+      (cases_lt (length path / 4) (length p))
 
 -- "17, tested last, a lent path too short for it": a path was found
 pub record Short (B : Btf) (id bit : ℕ) (lent : List ℕ) : Type 0 where
@@ -299,9 +301,9 @@ module _ (B : Btf) (id bit : ℕ) (path : List ℕ) where
   lent_short (no c) e h = absurd (⊎_elim (λ x. omega arith) (λ x. ⊎_elim (λ y. omega arith) (λ y. omega arith) x) (walk_refusals B id bit c e))
   lent_short (got p) e h =
       ⊎_elim
-      (λ l. let f : lent_path path (got p) ≡ found_of (Accepted (length p)) (put_words path 0 p) = rw (le-leb (length p) (length path / 4) l, lent_path) in let y : ◌≡◌ {A = ℕ} 0 17 = sym (ap (λ (x : Found). number_of x.answer) f) ∙ h in absurd (omega arith))
       (λ l. record { path = p; found = e; short = l })
-      (le_or_lt (length p) (length path / 4))
+      (λ l. let f : lent_path path (got p) ≡ found_of (Accepted (length p)) (put_words path 0 p) = rw (le-leb (length p) (length path / 4) l, lent_path) in let y : ◌≡◌ {A = ℕ} 0 17 = sym (ap (λ (x : Found). number_of x.answer) f) ∙ h in absurd (omega arith))
+      (cases_lt (length path / 4) (length p))
 
   pub short_lent : Short B id bit path → lent_path path (field_path B id bit) ≡ found_of (Refused 17 0) path
   unfolding lent_path
@@ -328,7 +330,7 @@ module _ (s : Session) (section w path : List ℕ) (id bit : ℕ) where
     where
       go : (q : Bool) → is_current s (length section) (length w) s.text_len ≡ q → P (field_call s section w path id bit)
       go false e = subst P (sym (call_not_current e)) a
-      go true e = ⊎_elim (λ l. subst P (sym (call_not_below e l)) b) (λ l. subst P (sym (call_walks e l)) c) (le_or_lt s.types id)
+      go true e = ⊎_elim (λ l. subst P (sym (call_walks e l)) c) (λ l. subst P (sym (call_not_below e l)) b) (cases_lt id s.types)
 
   -- "every refusal returns length 0 and leaves path, text and session untouched"
   pub refused_leaves : (number_of (field_call s section w path id bit).answer ≡ 0 → ⊥) → ((field_call s section w path id bit).path ≡ path) × (value_of (field_call s section w path id bit).answer ≡ 0)

@@ -21,7 +21,7 @@ use Rattle.session_field_at_bit.specs.step.Path.{shape_of, is_composite, passed,
 use Rattle.session_field_at_bit.specs.field.Calls.{found_of, put_words, lent_path}
 use Rattle.std.proofs.lemmas.Bool.{not-true, not-false}
 use Rattle.session_field_at_bit.specs.step.Code.{shape_is, step_is, step_asked, asked, Led, led_to, entry_put, entry_before}
-use Rattle.std.specs.Prelude.{Result, Ok, Err}
+use Rattle.std.specs.Prelude.{Option, Some, None, Result, Ok, Err}
 use Rattle.spec_bytes.specs.Refusals.{refusal_number}
 use Rattle.spec_bytes.specs.declared.refusal.Refusal.{Refusal}
 use Rattle.spec_bytes.specs.declared.refusal.Refusal.TheVariants.{TooDeep}
@@ -90,7 +90,7 @@ module _ (path : List ℕ) (n k : ℕ) where
       ∙ ap (led_to (got (n + 1 + length p))) (entry_then (leb (n + 1 + length p) (length path / 4)) p)
       ∙ ap (λ (m : ℕ). led_to (got m) (elim (leb m (length path / 4)) [ true ↦ put_words path n (k ∷ p) | false ↦ path ])) z
 
-module _ (b : TypeTable) (s w : List ℕ) (path : List ℕ) (id bit n : ℕ) (x : CodeShape) (ex : shape_is b s x ≡ behind 512 (btf_of b s w) id) (r : Result CodeStep Refusal) (er : step_asked r ≡ step_in (btf_of b s w) bit (shape_is b s x)) where
+module _ (b : TypeTable) (s w : List ℕ) (path : List ℕ) (id bit n : ℕ) (x : CodeShape) (ex : shape_is b s x ≡ behind 512 (btf_of b s w) id) (r : Result (Option CodeStep) Refusal) (er : step_asked r ≡ step_in (btf_of b s w) bit (shape_is b s x)) where
   step_is_lem : step_asked r ≡ step_in (btf_of b s w) bit (behind 512 (btf_of b s w) id)
   step_is_lem = er ∙ ap (step_in (btf_of b s w) bit) ex
 
@@ -109,47 +109,46 @@ module _ (b : TypeTable) (s w : List ℕ) (path : List ℕ) (id bit n : ℕ) (x 
       go zero z = f z
       go (suc l) z = g l z
 
-  pub walk_stay : r ≡ Ok step.Stay → led_to (asked (Ok n)) path ≡ written path n (path_from (512 - n) (btf_of b s w) id bit)
+  pub walk_stay : r ≡ Ok None → led_to (asked (Ok n)) path ≡ written path n (path_from (512 - n) (btf_of b s w) id bit)
   unfolding asked step_asked step_is ask_then full onward
   walk_stay g =
       sym (ap (written path n) (zero_or_more
-      (λ z. path_full z ∙ ap (λ (y : Result CodeStep Refusal). ask_then (step_asked y) full) g)
-      (λ l z. path_is l z ∙ ap (λ (y : Result CodeStep Refusal). ask_then (step_asked y) (onward (path_from l (btf_of b s w)))) g))
+      (λ z. path_full z ∙ ap (λ (y : Result (Option CodeStep) Refusal). ask_then (step_asked y) full) g)
+      (λ l z. path_is l z ∙ ap (λ (y : Result (Option CodeStep) Refusal). ask_then (step_asked y) (onward (path_from l (btf_of b s w)))) g))
       ∙ written_none path n)
 
   pub walk_no : (c : Refusal) → r ≡ Err c → led_to (asked (Err c)) path ≡ written path n (path_from (512 - n) (btf_of b s w) id bit)
   unfolding asked step_asked step_is ask_then written
   walk_no c g =
       sym (ap (written path n) (zero_or_more
-      (λ z. path_full z ∙ ap (λ (y : Result CodeStep Refusal). ask_then (step_asked y) full) g)
-      (λ l z. path_is l z ∙ ap (λ (y : Result CodeStep Refusal). ask_then (step_asked y) (onward (path_from l (btf_of b s w)))) g)))
+      (λ z. path_full z ∙ ap (λ (y : Result (Option CodeStep) Refusal). ask_then (step_asked y) full) g)
+      (λ l z. path_is l z ∙ ap (λ (y : Result (Option CodeStep) Refusal). ask_then (step_asked y) (onward (path_from l (btf_of b s w)))) g)))
 
-  pub walk_full : n ≡ 512 → (y : CodeStep) → r ≡ Ok y → (y ≡ step.Stay → ⊥) → led_to (asked (Err TooDeep)) path ≡ written path n (path_from (512 - n) (btf_of b s w) id bit)
+  pub walk_full : n ≡ 512 → (y : CodeStep) → r ≡ Ok (Some y) → led_to (asked (Err TooDeep)) path ≡ written path n (path_from (512 - n) (btf_of b s w) id bit)
   unfolding asked step_asked step_is ask_then full written
-  walk_full h y g more =
+  walk_full h y g =
       let z : 512 - n ≡ 0 = omega arith in
-      go y more ∙ sym (ap (written path n) (path_full z ∙ ap (λ (u : Result CodeStep Refusal). ask_then (step_asked u) full) g))
+      go y ∙ sym (ap (written path n) (path_full z ∙ ap (λ (u : Result (Option CodeStep) Refusal). ask_then (step_asked u) full) g))
     where
-      go : (u : CodeStep) → (u ≡ step.Stay → ⊥) → led_to (asked (Err TooDeep)) path ≡ written path n (ask_then (step_asked (Ok u)) full)
-      go (step.Stay) m = absurd (m refl)
-      go (step.Enter k t rest) m = refl
-      go (step.Field k) m = refl
+      go : (u : CodeStep) → led_to (asked (Err TooDeep)) path ≡ written path n (ask_then (step_asked (Ok (Some u))) full)
+      go (step.Enter k t rest) = refl
+      go (step.Field k) = refl
 
   module _ (h : n ≤ 512) (d : n ≡ 512 → ⊥) (k : ℕ) where
-    pub walk_field : r ≡ Ok (step.Field k) → (path'' : List ℕ) → path'' ≡ entry_put path n k (n + 1) → led_to (asked (Ok (n + 1))) path'' ≡ written path n (path_from (512 - n) (btf_of b s w) id bit)
+    pub walk_field : r ≡ Ok (Some (step.Field k)) → (path'' : List ℕ) → path'' ≡ entry_put path n k (n + 1) → led_to (asked (Ok (n + 1))) path'' ≡ written path n (path_from (512 - n) (btf_of b s w) id bit)
     unfolding asked step_asked step_is ask_then onward written entry_put put_words
     walk_field g path'' e =
         let z : 512 - n ≡ suc (512 - (n + 1)) = omega arith in
         ap (led_to (got (n + 1))) e
-        ∙ sym (ap (written path n) (path_is (512 - (n + 1)) z ∙ ap (λ (y : Result CodeStep Refusal). ask_then (step_asked y) (onward (path_from (512 - (n + 1)) (btf_of b s w)))) g))
+        ∙ sym (ap (written path n) (path_is (512 - (n + 1)) z ∙ ap (λ (y : Result (Option CodeStep) Refusal). ask_then (step_asked y) (onward (path_from (512 - (n + 1)) (btf_of b s w)))) g))
 
-    module _ (t rest : ℕ) (g : r ≡ Ok (step.Enter k t rest)) (y : Result ℕ Refusal) (path' : List ℕ) (l : length path' ≡ length path) (ey : led_to (asked y) path' ≡ written path (n + 1) (path_from (512 - (n + 1)) (btf_of b s w) t rest)) where
+    module _ (t rest : ℕ) (g : r ≡ Ok (Some (step.Enter k t rest))) (y : Result ℕ Refusal) (path' : List ℕ) (l : length path' ≡ length path) (ey : led_to (asked y) path' ≡ written path (n + 1) (path_from (512 - (n + 1)) (btf_of b s w) t rest)) where
       entered_then : entry_before path' n k (asked y) ≡ written path n (path_from (512 - n) (btf_of b s w) id bit)
       unfolding step_asked step_is ask_then onward
       entered_then =
           let z : 512 - n ≡ suc (512 - (n + 1)) = omega arith in
           written_more path n k (path_from (512 - (n + 1)) (btf_of b s w) t rest) (asked y) path' l ey
-          ∙ sym (ap (written path n) (path_is (512 - (n + 1)) z ∙ ap (λ (x : Result CodeStep Refusal). ask_then (step_asked x) (onward (path_from (512 - (n + 1)) (btf_of b s w)))) g))
+          ∙ sym (ap (written path n) (path_is (512 - (n + 1)) z ∙ ap (λ (x : Result (Option CodeStep) Refusal). ask_then (step_asked x) (onward (path_from (512 - (n + 1)) (btf_of b s w)))) g))
 
       pub walk_enter : (len : ℕ) (path'' : List ℕ) → y ≡ Ok len → path'' ≡ entry_put path' n k len → led_to (asked (Ok len)) path'' ≡ written path n (path_from (512 - n) (btf_of b s w) id bit)
       unfolding asked entry_before

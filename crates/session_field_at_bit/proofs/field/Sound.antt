@@ -2,24 +2,24 @@
 -- longer than it may be; 21 means what it says. Assumes nothing.
 use Prim.Native.Nat.{ℕ, zero, suc, ◌+◌, ◌-◌, ◌*◌, ◌/◌, ◌%◌, ◌<◌, ◌≤◌}
 use mathlib.Core.Path.{◌≡◌, refl, ap, ◌∙◌, sym, subst}
-use mathlib.Core.Bool.{Bool, true, false}
+use mathlib.Core.Bool.{Bool, true, false, true≢false}
 use mathlib.Core.List.{List, [], ◌∷◌}
 use mathlib.Core.Logic.{⊎_elim}
 use native.Mathlib.Omega.{arith}
 use native.Mathlib.Nat.{mod-lt, div-add-mod', div-lt_iff_lt-mul, mul_assoc}
 use lib.ListN.{length}
 use borrow.Author.Tests.{lt-ltb, le-ltb, le-leb, lt-leb, ne_eqb}
-use Rattle.spec_bytes.proofs.words.Laws.{le_or_lt}
+use Rattle.std.proofs.lemmas.Bool.{cases_lt}
 use Rattle.spec_c_dumper.specs.rules.Writer.{Ask, got, no, ask_then, checked}
 use Rattle.spec_c_dumper.specs.rules.Types.{Name, Member, BtfType, Void, Int, Ptr, Array, Composite, Enum, Enum64, Fwd, Typedef, Mod, Func, Var, Datasec, FuncProto, Float, DeclTag, TypeTag, Btf}
 use Rattle.spec_c_dumper.specs.rules.Layout.{size_of, get_size_of, end_of}
+use Rattle.spec_c_dumper.proofs.rules.Asking.{no_got, checked_got}
+use Rattle.spec_c_dumper.proofs.alignment_once.Right.{same_or}
+use Rattle.spec_c_dumper.proofs.rules.Deeper.{size_one_more}
 use Rattle.session_field_at_bit.specs.step.Path.{Shape, plain, through, array, composite, shape_of, is_composite, passed, behind, Step, stay, enter, field, covers, entered, tried, placed, step_in, full, onward, path_from, some_entry, field_path}
 use Rattle.session_field_at_bit.specs.field.Leads.{Covers, by_size, by_field, First, here, later, Uncovered, none, next, Leads, passes, place, member, bit_field, ends, gap}
 
 -- ---- answers
-no_got : {A : Type 0} → (c : ℕ) (a : A) → no c ≡ got a → ⊥
-no_got c a e = let z : ◌≡◌ {A = ℕ} 0 1 = cc in omega arith
-
 pub got_same : {A : Type 0} → (a b : A) → got a ≡ got b → a ≡ b
 got_same a b e = cc
 
@@ -29,50 +29,12 @@ unfolding ask_then
 then_got (got a) f y e k = k a refl e
 then_got (no c) f y e k = absurd (no_got c y e)
 
-pub zero_or : {P : Type 0} → (n : ℕ) → (n ≡ 0 → P) → ((n ≡ 0 → ⊥) → P) → P
-zero_or zero p q = p refl
-zero_or (suc n) p q = q (λ e. omega arith)
-
-checked_got : (n m : ℕ) → checked n ≡ got m → n ≡ m
-unfolding checked
-checked_got n m e =
-    ⊎_elim
-    (λ l. let f : checked n ≡ no 16 = rw (le-ltb n 4294967296 l, checked) in absurd (no_got 16 m (sym f ∙ e)))
-    (λ l. let f : checked n ≡ got n = rw (lt-ltb n 4294967296 l, checked) in got_same n m (sym f ∙ e))
-    (le_or_lt 4294967296 n)
-
 module _ (B : Btf) where
   -- ---- a further call never changes a size that was got
-  module _ (f g : ℕ → Ask ℕ) (h : (id a : ℕ) → f id ≡ got a → g id ≡ got a) where
-    more_size : (a : ℕ) (T : BtfType) → size_of B f T ≡ got a → size_of B g T ≡ got a
-    unfolding size_of ask_then
-    more_size a Void e = e
-    more_size a (Int n bits) e = e
-    more_size a (Ptr t) e = e
-    more_size a (Array t k) e = then_got (f t) (λ s. checked (k * s)) a e (λ s q r. ap (λ (z : Ask ℕ). ask_then z (λ s. checked (k * s))) (h t s q) ∙ r)
-    more_size a (Composite s n sz ms) e = e
-    more_size a (Enum s n sz vs) e = e
-    more_size a (Enum64 s n sz vs) e = e
-    more_size a (Fwd u n) e = e
-    more_size a (Typedef n t) e = h t a e
-    more_size a (Mod q t) e = h t a e
-    more_size a (Func n) e = e
-    more_size a (Var n) e = e
-    more_size a (Datasec n) e = e
-    more_size a (FuncProto r ps) e = e
-    more_size a (Float n sz) e = e
-    more_size a (DeclTag w n t k) e = h t a e
-    more_size a (TypeTag w n t) e = h t a e
-
-  one_more : (n id a : ℕ) → get_size_of n B id ≡ got a → get_size_of (suc n) B id ≡ got a
-  unfolding get_size_of
-  one_more zero id a e = absurd (no_got 12 a e)
-  one_more (suc n) id a e = more_size (get_size_of n B) (get_size_of (suc n) B) (one_more n) a (B.type_by_id id) e
-
   more : (m n id a : ℕ) → n ≤ m → get_size_of n B id ≡ got a → get_size_of m B id ≡ got a
   more zero n id a l e = let z : n ≡ 0 = omega arith in ap (λ (x : ℕ). get_size_of x B id) (sym z) ∙ e
   more (suc m) n id a l e =
-      ⊎_elim (λ h. one_more m id a (more m n id a h e)) (λ h. let z : n ≡ suc m = omega arith in ap (λ (x : ℕ). get_size_of x B id) (sym z) ∙ e) (le_or_lt n m)
+      ⊎_elim (λ h. let z : n ≡ suc m = omega arith in ap (λ (x : ℕ). get_size_of x B id) (sym z) ∙ e) (λ h. size_one_more B m id a (more m n id a h e)) (cases_lt m n)
 
   -- ---- a type by what the walk sees of it
   by_shape : (P : BtfType → Type 0)
@@ -170,15 +132,12 @@ covers_high : (offset end bit : ℕ) → offset ≤ bit → end ≤ bit → cove
 unfolding covers
 covers_high offset end bit h l = rw (le-leb offset bit h, covers, le-ltb bit end l)
 
-clash : true ≡ false → ⊥
-clash e = let z : ◌≡◌ {A = ℕ} 0 1 = cc in omega arith
-
 covers_both : (offset end bit : ℕ) → covers offset end bit ≡ true → (offset ≤ bit) × (bit < end)
 covers_both offset end bit e =
     ⊎_elim
-    (λ h. ⊎_elim (λ l. absurd (clash (sym e ∙ covers_high offset end bit h l))) (λ l. (h, l)) (le_or_lt end bit))
-    (λ h. absurd (clash (sym e ∙ covers_low offset end bit h)))
-    (le_or_lt offset bit)
+    (λ h. absurd (true≢false (sym e ∙ covers_low offset end bit h)))
+    (λ h. ⊎_elim (λ l. (h, l)) (λ l. absurd (true≢false (sym e ∙ covers_high offset end bit h l))) (cases_lt bit end))
+    (cases_lt bit offset)
 
 module _ (B : Btf) (m : Member) (end : ℕ) (e : end_of B m ≡ got end) where
   end_plain : {P : Type 0} → m.bit_size ≡ 0 → ((size : ℕ) → get_size_of 512 B m.type_id ≡ got size → end ≡ m.bit_offset + 8 * size → P) → P
@@ -200,7 +159,7 @@ module _ (B : Btf) (m : Member) (end : ℕ) (e : end_of B m ≡ got end) where
   pub is_covered : (bit : ℕ) → covers m.bit_offset end bit ≡ true → Covers B m bit
   is_covered bit h =
       let b : (m.bit_offset ≤ bit) × (bit < end) = covers_both m.bit_offset end bit h in
-      zero_or m.bit_size
+      same_or m.bit_size 0
       (λ z. end_plain z (λ size q w. let l : bit < m.bit_offset + 8 * size = omega (arith, b.1) in by_size size z q b.0 l))
       (λ n. let w : end ≡ m.bit_offset + m.bit_size = end_field n in let l : bit < m.bit_offset + m.bit_size = omega (arith, b.1) in by_field n b.0 l)
 
@@ -209,11 +168,11 @@ module _ (B : Btf) (m : Member) (end : ℕ) (e : end_of B m ≡ got end) where
       end_plain z (λ size' q' w.
       let s : size ≡ size' = got_same size size' (sym q ∙ q') in
       let x : bit < end = omega arith in
-      clash (sym (covers_true m.bit_offset end bit l x) ∙ h))
+      true≢false (sym (covers_true m.bit_offset end bit l x) ∙ h))
   not_covered bit h (by_field n l u) =
       let w : end ≡ m.bit_offset + m.bit_size = end_field n in
       let x : bit < end = omega arith in
-      clash (sym (covers_true m.bit_offset end bit l x) ∙ h)
+      true≢false (sym (covers_true m.bit_offset end bit l x) ∙ h)
 
 -- what trying the members from k on comes to
 pub record Entered (B : Btf) (bit k : ℕ) (ms : List Member) (i t r : ℕ) : Type 0 where
@@ -272,7 +231,7 @@ module _ (B : Btf) (bit : ℕ) where
       let c : Covers B m bit = is_covered B m end e bit h in
       let b : (m.bit_offset ≤ bit) × (bit < end) = covers_both m.bit_offset end bit h in
       let o : k ≡ k + 0 = omega arith in
-      zero_or m.bit_size
+      same_or m.bit_size 0
       (λ z. end_plain B m end e z (λ size q w.
       let u : entered m k bit ≡ enter k m.type_id (bit - m.bit_offset) = rw (z, entered) in
       let l : bit < m.bit_offset + 8 * size = omega (arith, b.1) in
@@ -349,7 +308,7 @@ module _ (B : Btf) (x bit : ℕ) where
     place_step : (s : ℕ) → k * s ≡ z → get_size_of 512 B t ≡ got s → (st : Step) → placed t s bit ≡ st → StepLeads st
     unfolding placed StepLeads
     place_step s ks big st v =
-        zero_or s
+        same_or s 0
         (λ o. let y : k * s ≡ k * 0 = ap (λ (n : ℕ). k * n) o in let y' : k * 0 ≡ 0 = omega arith in absurd (omega arith))
         (λ n.
         let pos : 0 < s * 8 = omega arith in
@@ -370,7 +329,7 @@ module _ (B : Btf) (x bit : ℕ) where
     array_step st e =
         let f : ask_then (get_size_of 511 B t) (λ s. checked (k * s)) ≡ got z = sym (ap (size_of B (get_size_of 511 B)) q) ∙ sz in
         then_got (get_size_of 511 B t) (λ s. checked (k * s)) z f (λ s a b.
-        let big : get_size_of 512 B t ≡ got s = one_more B 511 t s a in
+        let big : get_size_of 512 B t ≡ got s = size_one_more B 511 t s a in
         let u : got (placed t s bit) ≡ got st = sym (ap (λ (y : Ask ℕ). ask_then y (λ size. got (placed t size bit))) big) ∙ e in
         place_step s (checked_got (k * s) z b) big st (got_same (placed t s bit) st u))
 

@@ -6,7 +6,7 @@ use mathlib.Core.List.{List, [], ◌∷◌}
 use mathlib.Core.Logic.{⊎_elim}
 use native.Mathlib.Omega.{arith}
 use native.Mathlib.Nat.{mul-le-mul_right, add-mul}
-use Rattle.spec_bytes.proofs.words.Laws.{le_or_lt}
+use Rattle.std.proofs.lemmas.Bool.{cases_lt}
 use Rattle.spec_c_dumper.specs.rules.Writer.{got}
 use Rattle.spec_c_dumper.specs.rules.Types.{Member, Array, Btf}
 use Rattle.spec_c_dumper.specs.rules.Layout.{get_size_of}
@@ -65,7 +65,7 @@ below_place unit j k r s h e l =
 
 same_place : (unit j k r s : ℕ) → r < unit → s < unit → j * unit + r ≡ k * unit + s → (j ≡ k) × (r ≡ s)
 same_place unit j k r s hr hs e =
-    let o : j ≡ k = ⊎_elim (λ l. ⊎_elim (λ m. omega arith) (λ m. absurd (below_place unit j k r s hr e m)) (le_or_lt k j)) (λ l. absurd (below_place unit k j s r hs (sym e) l)) (le_or_lt j k) in
+    let o : j ≡ k = ⊎_elim (λ l. absurd (below_place unit k j s r hs (sym e) l)) (λ l. ⊎_elim (λ m. absurd (below_place unit j k r s hr e m)) (λ m. omega arith) (cases_lt j k)) (cases_lt k j) in
     let f : j * unit + r ≡ j * unit + s = e ∙ ap (λ (n : ℕ). n * unit + s) (sym o) in
     (o, omega arith)
 

@@ -18,7 +18,7 @@ use Rattle.session_field_at_bit.specs.declared.step.Step.{Step as CodeStep}
 use Rattle.session_field_at_bit.specs.declared.step.Step.TheVariants as step
 use Rattle.session_field_at_bit.specs.step.Path.{Step, stay, enter, field, covers, entered, tried}
 use Rattle.session_field_at_bit.specs.step.Code.{step_is, step_asked, member_step}
-use Rattle.std.specs.Prelude.{Result, Ok, Err}
+use Rattle.std.specs.Prelude.{Option, Some, None, Result, Ok, Err}
 
 -- ---- the loop of find_member
 module _ (b : TypeTable) (s w : List ℕ) (t : Record) (bit : ℕ) where
@@ -74,28 +74,27 @@ module _ (b : TypeTable) (s w : List ℕ) (t : Record) (bit : ℕ) where
             let y : x ≡ got stay = ex ∙ ap got (step_picked end ∙ ap entered_only e) in
             (λ h. ap entered_or e, λ h. absurd (h y))
 
-    module _ (r : Result CodeStep Refusal) (er : step_asked r ≡ ask_then (end_of (btf_of b s w) (rule_member b s m)) (λ end. got (member_step m k end bit))) (T : Ask Step) (i : T ≡ tried_rest k) where
-      pub tried_more : r ≡ Ok step.Stay → T ≡ tried_rest (k + 1)
+    module _ (r : Result (Option CodeStep) Refusal) (er : step_asked r ≡ ask_then (end_of (btf_of b s w) (rule_member b s m)) (λ end. got (member_step m k end bit))) (T : Ask Step) (i : T ≡ tried_rest k) where
+      pub tried_more : r ≡ Ok None → T ≡ tried_rest (k + 1)
       unfolding step_asked step_is
       tried_more g = i ∙ tried_one ∙ (decides _ _ er).0 (ap step_asked g)
 
       tried_found : (step_asked r ≡ got stay → ⊥) → step_asked r ≡ T
       tried_found h = sym (i ∙ tried_one ∙ (decides _ _ er).1 h)
 
-      pub tried_step : (x : CodeStep) → r ≡ Ok x → (x ≡ step.Stay → ⊥) → step_asked (Ok x) ≡ T
+      pub tried_step : (x : CodeStep) → r ≡ Ok (Some x) → step_asked (Ok (Some x)) ≡ T
       unfolding step_asked step_is
-      tried_step x g h = ap step_asked (sym g) ∙ tried_found (λ e. go x (sym (ap step_asked g) ∙ e) h)
+      tried_step x g = ap step_asked (sym g) ∙ tried_found (λ e. go x (sym (ap step_asked g) ∙ e))
         where
-          go : (y : CodeStep) → step_asked (Ok y) ≡ got stay → (y ≡ step.Stay → ⊥) → ⊥
-          go (step.Stay) e n = n refl
-          go (step.Enter a c d) e n = cc
-          go (step.Field a) e n = cc
+          go : (y : CodeStep) → step_asked (Ok (Some y)) ≡ got stay → ⊥
+          go (step.Enter a c d) e = cc
+          go (step.Field a) e = cc
 
       pub tried_refused : (c : Refusal) → r ≡ Err c → step_asked (Err c) ≡ T
       unfolding step_asked
       tried_refused c g = ap step_asked (sym g) ∙ tried_found (λ e. let z : no (refusal_number c) ≡ got stay = sym (ap step_asked g) ∙ e in cc)
 
-  pub tried_end : (T : Ask Step) (k n : ℕ) → T ≡ tried_rest k → n ≡ vlen_of t.info → n ≤ k → step_asked (Ok step.Stay) ≡ T
+  pub tried_end : (T : Ask Step) (k n : ℕ) → T ≡ tried_rest k → n ≡ vlen_of t.info → n ≤ k → step_asked (Ok None) ≡ T
   unfolding tried_rest from tried step_is step_asked
   tried_end T k n i en l =
       let z : vlen_of t.info - k ≡ 0 = omega arith in

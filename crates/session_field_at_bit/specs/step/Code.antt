@@ -1,5 +1,5 @@
 -- What the code's answers say of a step and of an entry.
-use Rattle.std.specs.Prelude.{ℕ, ◌-◌, ◌/◌, true, false, Result, Ok, Err, List, leb, eqb, length}
+use Rattle.std.specs.Prelude.{ℕ, ◌-◌, ◌/◌, true, false, Option, Some, None, Result, Ok, Err, List, leb, eqb, length}
 use Rattle.spec_bytes.specs.declared.refusal.Refusal.{Refusal}
 use Rattle.spec_bytes.specs.Refusals.{refusal_number}
 use Rattle.spec_bytes.specs.words.Words.{put_word}
@@ -10,7 +10,7 @@ use Rattle.spec_type_table.specs.Table.{members_of}
 use Rattle.session_field_at_bit.specs.declared.step.Shape.{Shape as CodeShape}
 use Rattle.session_field_at_bit.specs.declared.step.Shape.TheVariants.{Plain, Through, Array, Composite}
 use Rattle.session_field_at_bit.specs.declared.step.Step.{Step as CodeStep}
-use Rattle.session_field_at_bit.specs.declared.step.Step.TheVariants.{Stay, Enter, Field}
+use Rattle.session_field_at_bit.specs.declared.step.Step.TheVariants.{Enter, Field}
 use Rattle.session_field_at_bit.specs.step.Path.{Shape, plain, through, array, composite, Step, stay, enter, field, covers}
 
 -- a composite is its record
@@ -20,13 +20,13 @@ shape_is b s (Through t) = through t
 shape_is b s (Array t) = array t
 shape_is b s (Composite t) = composite (members_of b s t)
 
-unfoldable pub step_is : CodeStep → Step
-step_is Stay = stay
-step_is (Enter k t bit) = enter k t bit
-step_is (Field k) = field k
+unfoldable pub step_is : Option CodeStep → Step
+step_is None = stay
+step_is (Some (Enter k t bit)) = enter k t bit
+step_is (Some (Field k)) = field k
 
 -- a step or a refusal
-unfoldable pub step_asked : Result CodeStep Refusal → Ask Step
+unfoldable pub step_asked : Result (Option CodeStep) Refusal → Ask Step
 step_asked (Ok s) = got (step_is s)
 step_asked (Err c) = no (refusal_number c)
 

@@ -4,9 +4,9 @@ use mathlib.Core.Path.{◌≡◌, refl, ap}
 use mathlib.Core.Logic.{⊎_elim}
 use native.Mathlib.Omega.{arith}
 use borrow.Author.Tests.{le-leb}
+use Rattle.std.proofs.lemmas.Bool.{cases_lt}
 use Rattle.std.specs.Prelude.{None, Ok, Err}
 use Rattle.spec_bytes.specs.declared.refusal.Refusal.{Refusal}
-use Rattle.spec_bytes.proofs.words.Laws.{le_or_lt}
 use Rattle.spec_session.specs.declared.session.Reached.{Reached}
 use Rattle.spec_session.specs.calls.Calls.{limit_of, arrived_at}
 use Rattle.spec_session.proofs.calls.Laws.{limit_short, limit_long, limit_none, limit_between}
@@ -36,6 +36,6 @@ module _ (n len to : ℕ) (el : to ≡ limit_of n len) (h : len ≤ n) where
   pub room_fits : to - len ≤ 1073741824 - len
   room_fits =
       ⊎_elim
+      (λ l. ⊎_elim (λ k. omega (arith, el, limit_none n len l k)) (λ k. omega (arith, el, limit_long n len l k)) (cases_lt 1073741824 len))
       (λ l. omega (arith, el, limit_short n len l))
-      (λ l. ⊎_elim (λ k. omega (arith, el, limit_long n len l k)) (λ k. omega (arith, el, limit_none n len l k)) (le_or_lt len 1073741824))
-      (le_or_lt n 1073741824)
+      (cases_lt 1073741824 n)

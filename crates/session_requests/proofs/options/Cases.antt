@@ -2,7 +2,6 @@
 use Prim.Native.Nat.{ℕ, zero, suc, ◌*◌, ◌-◌}
 use mathlib.Core.Path.{◌≡◌, refl, ap, ◌∙◌}
 use mathlib.Core.Bool.{Bool, true, false}
-use mathlib.Core.Logic.{⊎_elim, ◌⊎◌}
 use mathlib.Core.List.{List, [], ◌∷◌}
 use lib.ListN.{length, take, drop, replicate, length-replicate}
 use lib.Dec.{ltb}
@@ -17,13 +16,11 @@ use Rattle.spec_session.specs.origin_calls.Bytes.{Reached as Noted, requested_no
 use Rattle.spec_session.specs.metered.Within.{Within as Counted, requested_within, onward_within, requested_from_within, CallWithin, settled_within, type_call_within, types_call_within}
 use Rattle.spec_session.specs.metered.Lists.{counted_within, list_from_within, list_call_within}
 use Rattle.spec_session.specs.origin_calls.Several.{front, go_on, list_from_causes, list_causes_call}
-use Rattle.session_requests.specs.declared.options.Options.{Options}
 use Rattle.session_requests.specs.declared.options.Options.TheVariants.{Plain, Within, Listed}
-use Rattle.session_requests.specs.options.Options.{is_listed}
 use Rattle.session_requests.specs.options.Counted.{Ended}
 use Rattle.session_requests.specs.options.Requests.{Stage, Ready, onward_with, requested_from_with, CallWith, ended_of, counted_of, explained_of, settled_with, type_call_with, types_call_with}
 use Rattle.session_requests.specs.options.Lists.{front_with, go_on_with, list_from_with, list_call_with}
-use Rattle.session_requests.proofs.request.Laws.{with_lists, with_none, with_ceiling, no_words}
+use Rattle.session_requests.proofs.request.Laws.{with_lists, with_none, with_ceiling}
 use Rattle.session_requests.proofs.requests.Laws.{made}
 use Rattle.c_dumper_emit.proofs.dump_type.Kept.{none_before}
 use Rattle.c_dumper_dependency_order.specs.declared.leaders.Lead.{Lead}
@@ -265,11 +262,6 @@ module _ (s : Session) (section w t : List ℕ) (r : Ended) (w' t' l' : List ℕ
   unfolding list_call_with list_causes_call
   causes_list ids l e = same_causes _ e ∙ list_listing section ids 0 s w t l 0
 
--- ---- what the three forms ask of the leaders
-pub unlisted_asks : (o : Options) (leads : List ℕ) → (o ≡ Plain) ⊎ ((c : ℕ) × (o ≡ Within c)) → Ready o 1 leads
-unlisted_asks o leads e =
-    let f : is_listed o ≡ false = ⊎_elim (λ x. ap is_listed x) (λ x. ap is_listed x.1) e in
-    no_words o 1 leads f
-
+-- ---- what a request with a leader for each listed id asks of the leaders
 pub listed_asks : Ready Listed 1 (lead_words (replicate 262145 (record { turn = 0; lead = 0 })))
 listed_asks _ = (words_length _ ∙ length-replicate {A = Lead} 262145 (record { turn = 0; lead = 0 }), none_before _ made)

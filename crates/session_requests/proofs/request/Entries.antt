@@ -1,24 +1,20 @@
 -- The entries of a list and its bytes, and those of what follows some entries. Assumes nothing.
 use Prim.Native.Nat.{ℕ, zero, suc, ◌+◌, ◌*◌, ◌-◌, ◌/◌, ◌%◌, ◌<◌, ◌≤◌}
-use mathlib.Core.Path.{◌≡◌, refl, ap, ◌∙◌, sym, subst}
+use mathlib.Core.Path.{◌≡◌, refl, ap, ◌∙◌, sym}
 use mathlib.Core.List.{List, [], ◌∷◌, ◌++◌, append_assoc, append-nil}
 use native.Mathlib.Omega.{arith}
 use lib.ListN.{length, get_or, take, drop, replicate, length-drop, get_or-append}
-use lib.Seq.{take-suc, length-take-le, take_all, take-append-add, take-append_seam, get_or-append-add, get_or-take}
+use lib.Seq.{take-suc, length-take-le, take-append-add, take-append_seam, get_or-append-add, get_or-take}
 use borrow.Rule.Slice.PartMut.{mid_of, post_of, put_mid, mid_len, same_len_mid}
 use Rattle.spec_bytes.specs.words.Words.{get_word}
 use Rattle.spec_bytes.proofs.words.Laws.{get_in}
 use Rattle.spec_session.specs.session.Turns.{then_zeros}
 use Rattle.spec_c_dumper.specs.origins.Causes.{Entry, entry, word_bytes, bytes_of, filled}
+use Rattle.spec_c_dumper.proofs.origins.Listed.{bytes_append}
 use Rattle.c_dumper_emit.specs.entries.Noted.{entry_at, entries_of}
 use Rattle.c_dumper_emit.proofs.entries.Laws.{entries_length}
 
 -- ---- the bytes of entries
-bytes_append : (es fs : List Entry) → bytes_of (es ++ fs) ≡ bytes_of es ++ bytes_of fs
-unfolding bytes_of
-bytes_append [] fs = refl
-bytes_append (e ∷ es) fs = ap (λ (l : List ℕ). word_bytes e.id ++ (word_bytes e.cause ++ (word_bytes e.leader ++ l))) (bytes_append es fs)
-
 module _ (l : List ℕ) where
   one : (i j : ℕ) → j ≡ i + 1 → i < length l → take j l ≡ take i l ++ (get_or l i 0 ∷ [])
   one i j e h = let q : j ≡ suc i = omega arith in ap (λ (k : ℕ). take k l) q ∙ take-suc l i 0 h
@@ -152,9 +148,6 @@ module _ (l u : List ℕ) (k : ℕ) (h : k * 12 ≤ length l) (same : length u �
 module _ (l : List ℕ) (c : ℕ) (h : c * 12 ≤ length l) where
   abbrev rest : ℕ
   rest = length l - c * 12
-
-  mid_is : mid_of (c * 12) rest l ≡ drop (c * 12) l
-  mid_is = take_all rest (drop (c * 12) l) (subst (λ (n : ℕ). n ≤ rest) (sym (length-drop (c * 12) l)) (omega arith))
 
   post_none : post_of (c * 12) rest l ≡ []
   post_none = none (drop rest (drop (c * 12) l)) (length-drop rest (drop (c * 12) l) ∙ (let e : length (drop (c * 12) l) ≡ length l - c * 12 = length-drop (c * 12) l in omega arith))

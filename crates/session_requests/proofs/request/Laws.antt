@@ -11,10 +11,10 @@ use lib.Dec.{leb}
 use Rattle.std.proofs.lemmas.List.{append_cancel_left}
 use borrow.Author.Tests.{le-leb, lt-leb}
 use borrow.Rule.Slice.PartMut.{mid_of, put_mid, mid_len}
+use Rattle.std.proofs.lemmas.Bool.{cases_lt}
 use Rattle.std.specs.Prelude.{Some, None, Result, Ok, Err}
 use Rattle.spec_bytes.specs.declared.refusal.Refusal.{Refusal}
 use Rattle.spec_bytes.specs.declared.refusal.Refusal.TheVariants.{CeilingPassed}
-use Rattle.spec_bytes.proofs.words.Laws.{le_or_lt}
 use Rattle.spec_type_table.specs.declared.types.TypeTable.{TypeTable}
 use Rattle.spec_type_table.specs.Cells.{get_field}
 use Rattle.spec_type_table.specs.Table.{btf_of}
@@ -346,9 +346,9 @@ module _ (o : Options) (b : TypeTable) (s w t l : List ℕ) (room : ℕ) (p : Pr
       by : (x : Bool) → (is_counted o) ≡ x → Next (ways (counted (ceiling_of o) k))
       by false f = subst (λ (x : Result ℕ Refusal). Next (ways x)) (sym (idle_plain o f k)) (next_plain f)
       by true f = ⊎_elim
-          (λ h. subst (λ (x : Result ℕ Refusal). Next (ways x)) (idle_none k c₀ h ∙ sym (idle_counted o f k)) (next_none f h))
           (λ h. subst (λ (x : Result ℕ Refusal). Next (ways x)) (idle_one k c₀ h ∙ sym (idle_counted o f k)) (next_more f h))
-          (le_or_lt c₀ k)
+          (λ h. subst (λ (x : Result ℕ Refusal). Next (ways x)) (idle_none k c₀ h ∙ sym (idle_counted o f k)) (next_none f h))
+          (cases_lt k c₀)
 
 -- what is ready for one turn is so for the next, where nothing was noted
 pub ready_more : (o : Options) (turn : ℕ) (leads : List ℕ) → Ready o turn leads → Ready o (turn + 1) leads

@@ -7,8 +7,8 @@ use mathlib.Core.Logic.{⊎_elim}
 use native.Mathlib.Omega.{arith}
 use lib.ListN.{length, take, drop}
 use borrow.Rule.Slice.PartMut.{mid_of}
+use Rattle.std.proofs.lemmas.Bool.{cases_lt}
 use Rattle.std.specs.Prelude.{Ok, Err}
-use Rattle.spec_bytes.proofs.words.Laws.{le_or_lt}
 use Rattle.spec_c_dumper.specs.ceiling.Ceiling.{unbounded}
 use Rattle.spec_c_dumper.specs.rules.Machine.{Out, wrote, stuck, obind}
 use Rattle.spec_c_dumper.specs.rules.Types.{Btf as Rules, table_of}
@@ -68,7 +68,7 @@ module _ (b : TypeTable) (few : b.types ≤ 262145) (s w t l : List ℕ) (len id
     its_paper = ap (λ (z : Penned). noted_out 0 z u w' l') q ∙ goes 0 p u w' l'
 
     had_room : lined.need ≤ entries_in l
-    had_room = ⊎_elim (λ h. h) (λ h. absurd (no_wrote 17 (paper 0 p u w' l') (sym (lined.short (entries_in l) zero-le h) ∙ sym came ∙ its_paper))) (le_or_lt lined.need (entries_in l))
+    had_room = ⊎_elim (λ h. absurd (no_wrote 17 (paper 0 p u w' l') (sym (lined.short (entries_in l) zero-le h) ∙ sym came ∙ its_paper))) (λ h. h) (cases_lt (entries_in l) lined.need)
 
     pub noted_before : Before (turn + 1) k'
     unfolding with_leads

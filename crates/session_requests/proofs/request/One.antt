@@ -7,9 +7,9 @@ use mathlib.Core.Logic.{⊎_elim}
 use native.Mathlib.Omega.{arith}
 use lib.ListN.{length}
 use borrow.Rule.Slice.PartMut.{mid_of, put_mid, mid_len}
+use Rattle.std.proofs.lemmas.Bool.{cases_lt}
 use Rattle.std.specs.Prelude.{Option, Some, None, Ok, Err}
 use Rattle.spec_bytes.specs.declared.refusal.Refusal.{Refusal}
-use Rattle.spec_bytes.proofs.words.Laws.{le_or_lt}
 use Rattle.spec_c_dumper.specs.ceiling.Ceiling.{Limit, unbounded, most, calls_made}
 use Rattle.spec_c_dumper.specs.rules.Machine.{obind}
 use Rattle.spec_c_dumper.specs.origins.Causes.{up_to, entries_in}
@@ -25,7 +25,7 @@ use Rattle.spec_session.specs.session.Turns.{visits_in, reach_of}
 use Rattle.spec_session.specs.calls.Calls.{limit_of, came_to, arrived_at}
 use Rattle.spec_session.proofs.calls.Laws.{arrived_in_lem, arrived_past, end_accepted, accepted_fits, end_refused, refused_fits}
 use Rattle.session_record.specs.arrival.Arrival.{arrived_in}
-use Rattle.session_record.proofs.arrival.Arrival.{room_fits, arrived_accepted, arrived_refused}
+use Rattle.session_record.proofs.arrival.Arrival.{room_fits, arrived_accepted, arrived_refused, from_to, to_end}
 use Rattle.c_dumper_emit.specs.declared.entries.Pen.{Pen}
 use Rattle.c_dumper_emit.specs.entries.Noted.{noted_out}
 use Rattle.c_dumper_emit.proofs.entries.Laws.{Penned}
@@ -53,12 +53,18 @@ most_is (option.Within c) e = refl
 most_is (option.Listed) e = absurd (let z : false ≡ true = e in cc)
 
 module _ (o : Options) (b : TypeTable) (few : b.types ≤ 262145) (s w t l : List ℕ) (len id to k : ℕ) (small : id < 4294967296) (short : len < 4294967296) (within : len ≤ length t)
-    (el : to ≡ limit_of (length t) len) (below : len ≤ to) (ends : to ≤ length t)
+    (el : to ≡ limit_of (length t) len)
     (under : Under o k) (turn : ℕ) (q q' : List ℕ) (ready : Ready o turn q) (lq : length q' ≡ length q)
     (d : Penned) (u w' l' : List ℕ) (same : length u ≡ length (mid_of len (to - len) t)) (m : ℕ)
     (lists : Bool) (asks : lists ≡ is_listed o) (ceiling : Option ℕ) (ec : ceiling ≡ ceiling_of o)
     (told_e : with_leads q' (noted_out 0 d u w' l') ≡ obind (with_leads q (noted_out 0 (Ok (record { at = 0; count = 0 })) (mid_of len (to - len) t) w l)) (λ x. dumped_kept b (btf_of b s w) (record { lists = lists; room = entries_in l }) (limit_by ceiling) x id turn k))
     (told_m : m ≡ calls_made (ordered_in (btf_of b s w) (limit_by ceiling) (record { work = w; len = 0 }) id k)) (v : ℕ) where
+  below : len ≤ to
+  below = from_to (length t) len to el within
+
+  ends : to ≤ length t
+  ends = to_end (length t) len to el within
+
   abbrev mid : List ℕ
   mid = mid_of len (to - len) t
 
@@ -171,7 +177,7 @@ module _ (o : Options) (b : TypeTable) (few : b.types ≤ 262145) (s w t l : Lis
       by : (x y : Bool) → (is_listed o) ≡ x → (is_counted o) ≡ y → Way
       by true y ex ey = way_listed ex
       by false false ex ey = way_plain ex ey
-      by false true ex ey = ⊎_elim (way_fits ex ey) (way_over ex ey) (le_or_lt (k + opens) c)
+      by false true ex ey = ⊎_elim (way_over ex ey) (way_fits ex ey) (cases_lt c (k + opens))
 
   abbrev Result : Progress → Type 0
   Result p =

@@ -12,13 +12,13 @@ use lib.ListN.{length, get_or, take, drop, replicate, take-append-drop, length-d
 use lib.Seq.{length-take-le, drop_at}
 use borrow.Author.Tests.{le-ltb, lt-ltb, lt-leb, not-true}
 use borrow.Rule.Slice.PartMut.{mid_of, put_mid, mid_len, same_len_mid}
+use Rattle.std.proofs.lemmas.Bool.{cases_lt}
 use Rattle.std.specs.Prelude.{Some, None, Ok}
 use Rattle.spec_bytes.specs.declared.refusal.Refusal.{Refusal}
 use Rattle.spec_bytes.specs.declared.refusal.Refusal.TheVariants.{NoSuchId, SessionClosed}
 use Rattle.spec_bytes.specs.Refusals.{refusal_number}
 use Rattle.spec_bytes.specs.words.Words.{get_word}
 use Rattle.spec_opening.proofs.Opens.{some_number}
-use Rattle.spec_bytes.proofs.words.Laws.{le_or_lt}
 use Rattle.spec_c_dumper.specs.rules.Machine.{Out}
 use Rattle.spec_c_dumper.specs.rules.Types.{table_of}
 use Rattle.spec_c_dumper.specs.rules.Request.{dumped}
@@ -119,8 +119,8 @@ module _ (room : ℕ) (b : TypeTable) (s : List ℕ) (id len v : ℕ) (w t : Lis
   noted_reach : ((requested_noted (up_to room) b s id [] len v w t).reach ≡ requested b s id len v w t) ⊎ ((requested_noted (up_to room) b s id [] len v w t).reach ≡ refused_by 17 len v (take len t))
   unfolding requested_noted came_to_noted requested came_to forget
   noted_reach = ⊎_elim
-      (λ h. inl (ap (λ (o : Out (NotedOf Sheet)). came_to len v t (forget o)) (lined.fits room h) ∙ ap (came_to len v t) lined.same))
-      (λ h. inr (ap (λ (o : Out (NotedOf Sheet)). came_to len v t (forget o)) (lined.short room zero-le h))) (le_or_lt lined.need room)
+      (λ h. inr (ap (λ (o : Out (NotedOf Sheet)). came_to len v t (forget o)) (lined.short room zero-le h)))
+      (λ h. inl (ap (λ (o : Out (NotedOf Sheet)). came_to len v t (forget o)) (lined.fits room h) ∙ ap (came_to len v t) lined.same)) (cases_lt room lined.need)
 
   module _ (short : len ≤ length t) where
     number_same : {a a' : ℕ} {d d' : ℕ} {e e' : ℕ} {u u' : List ℕ} → refused_by a d e u ≡ refused_by a' d' e' u' → a ≡ a'
@@ -154,9 +154,9 @@ module _ (room : ℕ) (b : TypeTable) (s : List ℕ) (id len v : ℕ) (w t : Lis
 -- the bytes of a part
 part_bytes : (l u : List ℕ) (c : ℕ) → c ≤ entries_in l → length u ≡ length (mid_of (c * 12) (length l - c * 12) l) → ((j : ℕ) → get_or (put_mid (c * 12) (length l - c * 12) l u) j 0 < 256) → (j : ℕ) → get_or u j 0 < 256
 part_bytes l u c h same bytes j = ⊎_elim
-    (λ i. subst (λ (x : ℕ). x < 256) (sym (get_or-eq_default u 0 i)) (omega arith))
     (λ i. subst (λ (x : ℕ). x < 256) (byte_after l u c (omega arith) same j i) (bytes (c * 12 + j)))
-    (le_or_lt (length u) j)
+    (λ i. subst (λ (x : ℕ). x < 256) (sym (get_or-eq_default u 0 i)) (omega arith))
+    (cases_lt j (length u))
 
 -- ---- one id after another
 module _ (o : Options) (s : Session) (section : List ℕ) (es : s.section_len ≡ length section) where

@@ -7,7 +7,7 @@ use mathlib.Core.Logic.{⊎_elim}
 use native.Mathlib.Omega.{arith}
 use native.Mathlib.Nat.{pow-succ'}
 use lib.ListN.{length, get_or, length-append}
-use Rattle.spec_bytes.proofs.words.Laws.{le_or_lt}
+use Rattle.std.proofs.lemmas.Bool.{cases_lt}
 use Rattle.spec_bytes.proofs.text.DecimalLaws.{digits_one, digits_more}
 use Rattle.spec_bytes.specs.text.Decimal.{digits, decimal}
 
@@ -58,9 +58,9 @@ enough (suc f) n h =
     let less : n / 10 < 10 ^ suc f = omega (arith, pow-succ' 10 (suc f)) in
     let k = enough f (n / 10) less in
     ⊎_elim
-    (λ l. rw (digits_more (suc f) n l) (more n (digits (suc f) (n / 10)) l k))
     (λ l. rw (digits_one (suc f) n l) (one n l))
-    (le_or_lt 10 n)
+    (λ l. rw (digits_more (suc f) n l) (more n (digits (suc f) (n / 10)) l k))
+    (cases_lt n 10)
 
 pub decimal_is : (n : ℕ) → n < 2 ^ 64 → Numeral n (decimal n)
 unfolding decimal

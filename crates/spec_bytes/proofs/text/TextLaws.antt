@@ -11,10 +11,10 @@ use lib.ListN.{length, take, drop, replicate, length-append, length-drop}
 use lib.Seq.{length-take-le, take_at, drop-drop, drop-append-add, paste, paste-zero, take-length}
 use borrow.Rule.Slice.PartMut.{put_mid}
 use borrow.Author.Tests.{le-leb, lt-leb}
+use Rattle.std.proofs.lemmas.Bool.{cases_lt}
 use Rattle.std.specs.Prelude.{Ok, Err, IsErrAnd}
 use Rattle.std.proofs.lemmas.List.{take-replicate}
 use Rattle.std.proofs.lemmas.Slice.{put_mid-paste}
-use Rattle.spec_bytes.proofs.words.Laws.{le_or_lt}
 use Rattle.spec_bytes.specs.Refusals.{refusal_number}
 use Rattle.spec_bytes.specs.declared.refusal.Refusal.{Refusal}
 use Rattle.spec_bytes.specs.declared.refusal.Refusal.TheVariants.{TextFull}
@@ -22,7 +22,7 @@ use Rattle.spec_bytes.specs.text.Text.{Text, whole, cut, join, bytes, pfx}
 use Rattle.spec_bytes.specs.text.Placed.{done, stopped, is_stopped, Placed, put_out, place, written, put_text}
 
 module _ (t : List ℕ) (at : ℕ) (a : List ℕ) (h : at + length a ≤ length t) where
-  head_length : length (take at t ++ a) ≡ at + length a
+  pub head_length : length (take at t ++ a) ≡ at + length a
   head_length =
       let l : at ≤ length t = omega arith in
       length-append (take at t) a ∙ ap (λ (k : ℕ). k + length a) (length-take-le at t l)
@@ -118,7 +118,7 @@ module _ (t : List ℕ) (at : ℕ) (a : List ℕ) (h : at + length a ≤ length 
 
   -- a second text, from where the first ended
   put_on : (y : Text) → put_text (place t at a) (Ok (at + length a)) y ≡ put_text t (Ok at) (join (whole a) y)
-  put_on y = ⊎_elim fits over (le_or_lt (length (bytes y)) (length t - (at + length a)))
+  put_on y = ⊎_elim over fits (cases_lt (length t - (at + length a)) (length (bytes y)))
     where
       same : length (bytes (join (whole a) y)) ≡ length a + length (bytes y)
       same = ap length (bytes_join a y) ∙ length-append a (bytes y)
@@ -135,7 +135,7 @@ module _ (t : List ℕ) (at : ℕ) (a : List ℕ) (h : at + length a ≤ length 
           ∙ sym (put_none t at (join (whole a) y) (omega (arith, same)))
 
 put_on_any : (t : List ℕ) (at : ℕ) (a : List ℕ) (y : Text) → length a ≤ length t - at → put_text (place t at a) (Ok (at + length a)) y ≡ put_text t (Ok at) (join (whole a) y)
-put_on_any t at a y h = ⊎_elim (λ l. put_on t at a (omega arith) y) (λ l. past (none_of a (omega arith))) (le_or_lt at (length t))
+put_on_any t at a y h = ⊎_elim (λ l. past (none_of a (omega arith))) (λ l. put_on t at a (omega arith) y) (cases_lt (length t) at)
   where
     past : a ≡ [] → put_text (place t at a) (Ok (at + length a)) y ≡ put_text t (Ok at) (join (whole a) y)
     past e =
@@ -151,9 +151,9 @@ unfolding bytes put_text
 cut_stopped t (Err d) a c = (refusal_number d, refl)
 cut_stopped t (Ok at) a c =
     ⊎_elim
-    (λ m. (c, put_fits t at (cut a c) m ∙ cut_is t at a c))
     (λ m. (17, put_none t at (cut a c) m))
-    (le_or_lt (length a) (length t - at))
+    (λ m. (c, put_fits t at (cut a c) m ∙ cut_is t at a c))
+    (cases_lt (length t - at) (length a))
 
 past_on : (t : List ℕ) (d : Refusal) (x y : Text) (n : Placed) (t' : List ℕ) → put_out n t' ≡ put_text t (Err d) x → put_text t' n y ≡ put_text t (Err d) (join x y)
 unfolding put_text
@@ -164,7 +164,7 @@ pub join_on : (t : List ℕ) (at : Placed) (x y : Text) (n : Placed) (t' : List 
 unfolding bytes join
 join_on t (Err d) x y n t' e₁ = past_on t d x y n t' e₁
 join_on t (Ok at) (cut a c) y n t' e₁ = let k = cut_stopped t (Ok at) a c in stays t' n k.0 y (e₁ ∙ k.1) ∙ sym k.1
-join_on t (Ok at) (whole a) y n t' e₁ = ⊎_elim fits over (le_or_lt (length a) (length t - at))
+join_on t (Ok at) (whole a) y n t' e₁ = ⊎_elim over fits (cases_lt (length t - at) (length a))
   where
     fits : length a ≤ length t - at → put_text t' n y ≡ put_text t (Ok at) (join (whole a) y)
     fits m =

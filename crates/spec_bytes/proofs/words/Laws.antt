@@ -1,21 +1,17 @@
 -- The two cases of `get_word` and of `put_word`, and what putting a word does to the length and to the other words.
 -- Assumes nothing.
-use Prim.Native.Nat.{ℕ, zero, suc, zero-le, suc-le-suc, ◌+◌, ◌*◌, ◌/◌, ◌%◌, ◌<◌, ◌≤◌}
+use Prim.Native.Nat.{ℕ, zero, suc, ◌+◌, ◌*◌, ◌/◌, ◌%◌, ◌<◌, ◌≤◌}
 use mathlib.Core.Path.{◌≡◌, refl, ap, ◌∙◌, sym}
-use mathlib.Core.List.{List}
+use mathlib.Core.List.{List, [], ◌∷◌}
 use mathlib.Core.Bool.{Bool, true, false}
 use mathlib.Core.Logic.{⊎_elim, ◌⊎◌, inl, inr, ◌≢◌}
 use native.Mathlib.Omega.{arith}
-use lib.ListN.{length, get_or, set, length-set, get_or-eq_default}
+use lib.ListN.{length, get_or, set, length-set, get_or-eq_default, replicate}
 use lib.Seq.{ext_get_or, set_comm, get_or-set_same, get_or-set_other}
 use lib.Dec.{ltb}
-use borrow.Author.Tests.{lt-ltb, le-ltb}
-use Rattle.spec_bytes.specs.words.Words.{get_word, put_word, word_at, word_at_big, word_in, turn, join_at, join_big, set_word, pick_list, table, words}
-
-pub le_or_lt : (a b : ℕ) → (a ≤ b) ⊎ (b < a)
-le_or_lt zero b = inl zero-le
-le_or_lt (suc a) zero = inr (suc-le-suc zero-le)
-le_or_lt (suc a) (suc b) = ⊎_elim (λ p. inl (suc-le-suc p)) (λ q. inr (suc-le-suc q)) (le_or_lt a b)
+use borrow.Author.Tests.{lt-ltb, le-ltb, ltb-false}
+use Rattle.std.proofs.lemmas.Bool.{cases_lt}
+use Rattle.spec_bytes.specs.words.Words.{get_word, put_word, word_at, word_at_big, word_in, turn, join_at, join_big, set_word, pick_list, table, words, one_more, pick}
 
 pub get_in : (b : List ℕ) (i : ℕ) → i < length b / 4 → get_word b i ≡ join_at b (i * 4)
 unfolding get_word
@@ -42,7 +38,7 @@ unfolding word_at_big
 read_big_out b at h = simp (le-ltb _ _ h)
 
 -- the one is the other, turned
-lower : (a q : ℕ) → a < 256 → (a + q * 256) % 256 ≡ a
+pub lower : (a q : ℕ) → a < 256 → (a + q * 256) % 256 ≡ a
 lower a q h = omega arith
 
 turn_join : (a b c d : ℕ) → a < 256 → b < 256 → c < 256 → d < 256
@@ -61,9 +57,9 @@ turn_join a b c d ha hb hc hd =
 pub word_turned : (b : List ℕ) → ((i : ℕ) → get_or b i 0 < 256) → (at : ℕ) → turn (word_at b at) ≡ word_at_big b at
 word_turned b h at =
     ⊎_elim
-    (λ l. ap turn (read_out b at l) ∙ sym (read_big_out b at l))
     (λ l. ap turn (read_in b at l) ∙ turn_join _ _ _ _ (h at) (h (at + 1)) (h (at + 2)) (h (at + 3)) ∙ sym (read_big_in b at l))
-    (le_or_lt (length b) (at + 3))
+    (λ l. ap turn (read_out b at l) ∙ sym (read_big_out b at l))
+    (cases_lt (at + 3) (length b))
 
 -- in either order
 module _ (b : List ℕ) (at : ℕ) (big : Bool) (w : ℕ) (e : w ≡ word_at b at) where
@@ -127,20 +123,20 @@ get_put_same b i v h =
 
 -- another word is as it was
 pub get_put_other : (b : List ℕ) (i k v : ℕ) → k ≢ i → get_word (put_word b i v) k ≡ get_word b k
-get_put_other b i k v n = ⊎_elim out (λ h. rw (put_in b i v h) (inner h)) (le_or_lt (length b / 4) i)
+get_put_other b i k v n = ⊎_elim (λ h. rw (put_in b i v h) (inner h)) out (cases_lt i (length b / 4))
   where
     out : length b / 4 ≤ i → get_word (put_word b i v) k ≡ get_word b k
     out h = rw (put_out b i v h)
 
     apart : i < length b / 4 → ((k * 4) + 3 < i * 4) ⊎ (i * 4 + 3 < k * 4)
-    apart h = ⊎_elim (λ l. inr (omega arith)) (λ l. inl (omega arith)) (le_or_lt i k)
+    apart h = ⊎_elim (λ l. inl (omega arith)) (λ l. inr (omega arith)) (cases_lt k i)
 
     inner : i < length b / 4 → get_word (set_word b (i * 4) v) k ≡ get_word b k
     inner h =
         ⊎_elim
-        (λ l. get_out _ _ (simp length-set l) ∙ sym (get_out b k l))
         (λ l. get_in _ _ (simp length-set l) ∙ set_other b (i * 4) v (omega arith) (k * 4) (apart h) ∙ sym (get_in b k l))
-        (le_or_lt (length b / 4) k)
+        (λ l. get_out _ _ (simp length-set l) ∙ sym (get_out b k l))
+        (cases_lt k (length b / 4))
 
 -- the other view of the same: the list of the whole words
 table_length : (f : ℕ → ℕ) (k n : ℕ) → length (table f k n) ≡ n
@@ -160,9 +156,9 @@ pub words_get : (b : List ℕ) (i : ℕ) → get_or (words b) i 0 ≡ get_word b
 unfolding words
 words_get b i =
     ⊎_elim
-    (λ l. get_or-eq_default (words b) 0 (omega (arith, words_length b)) ∙ sym (get_out b i l))
     (λ l. let z : 0 + i ≡ i = omega arith in table_at (get_word b) 0 (length b / 4) i l ∙ ap (get_word b) z)
-    (le_or_lt (length b / 4) i)
+    (λ l. get_or-eq_default (words b) 0 (omega (arith, words_length b)) ∙ sym (get_out b i l))
+    (cases_lt i (length b / 4))
 
 pub words_put : (b : List ℕ) (i v : ℕ) → words (put_word b i v) ≡ set (words b) i v
 words_put b i v = ext_get_or 0 _ _ (same ∙ sym (length-set (words b) i v)) each
@@ -171,7 +167,7 @@ words_put b i v = ext_get_or 0 _ _ (same ∙ sym (length-set (words b) i v)) eac
     same = words_length (put_word b i v) ∙ ap (λ (n : ℕ). n / 4) (put_length b i v) ∙ sym (words_length b)
 
     each : (k : ℕ) → k < length (words (put_word b i v)) → get_or (words (put_word b i v)) k 0 ≡ get_or (set (words b) i v) k 0
-    each k h = words_get (put_word b i v) k ∙ ⊎_elim up (λ l. other (omega arith)) (le_or_lt k i)
+    each k h = words_get (put_word b i v) k ∙ ⊎_elim (λ l. other (omega arith)) up (cases_lt i k)
       where
         other : (k ≡ i → ⊥) → get_word (put_word b i v) k ≡ get_or (set (words b) i v) k 0
         other n = get_put_other b i k v n ∙ sym (words_get b k) ∙ sym (get_or-set_other (words b) i k v 0 n)
@@ -181,7 +177,7 @@ words_put b i v = ext_get_or 0 _ _ (same ∙ sym (length-set (words b) i v)) eac
             rw e (get_put_same b i v (omega (arith, words_length b, same)) ∙ sym (get_or-set_same (words b) i v 0 (omega (arith, same))))
 
         up : k ≤ i → get_word (put_word b i v) k ≡ get_or (set (words b) i v) k 0
-        up l = ⊎_elim (λ m. here (omega arith)) (λ m. other (omega arith)) (le_or_lt i k)
+        up l = ⊎_elim (λ m. other (omega arith)) (λ m. here (omega arith)) (cases_lt k i)
 
 -- ---- a word put over a word
 module _ (b : List ℕ) (at v : ℕ) (h : at + 3 < length b) where
@@ -202,9 +198,9 @@ module _ (b : List ℕ) (at v : ℕ) (h : at + 3 < length b) where
 place : (at j : ℕ) → (P : Type 0) → (j ≡ at → P) → (j ≡ at + 1 → P) → (j ≡ at + 2 → P) → (j ≡ at + 3 → P) → ((j < at) ⊎ (at + 3 < j) → P) → P
 place at j P p0 p1 p2 p3 p4 =
     ⊎_elim
-    (λ a. ⊎_elim (λ b. ⊎_elim (λ c. ⊎_elim (λ d. ⊎_elim (λ e. p4 (inr (omega arith))) (λ e. p3 (omega arith)) (le_or_lt (at + 4) j)) (λ d. p2 (omega arith)) (le_or_lt (at + 3) j)) (λ c. p1 (omega arith)) (le_or_lt (at + 2) j)) (λ b. p0 (omega arith)) (le_or_lt (at + 1) j))
     (λ a. p4 (inl a))
-    (le_or_lt at j)
+    (λ a. ⊎_elim (λ b. p0 (omega arith)) (λ b. ⊎_elim (λ c. p1 (omega arith)) (λ c. ⊎_elim (λ d. p2 (omega arith)) (λ d. ⊎_elim (λ e. p3 (omega arith)) (λ e. p4 (inr (omega arith))) (cases_lt j (at + 4))) (cases_lt j (at + 3))) (cases_lt j (at + 2))) (cases_lt j (at + 1)))
+    (cases_lt j at)
 
 module _ (b : List ℕ) (at u v : ℕ) (h : at + 3 < length b) where
   set_again : set_word (set_word b at u) at v ≡ set_word b at v
@@ -251,7 +247,7 @@ module _ (b : List ℕ) (at k u v : ℕ) where
 
 -- the second store to a word is what stays
 pub put_again : (b : List ℕ) (i u v : ℕ) → put_word (put_word b i u) i v ≡ put_word b i v
-put_again b i u v = ⊎_elim (λ l. rw (put_out b i u l)) inside (le_or_lt (length b / 4) i)
+put_again b i u v = ⊎_elim inside (λ l. rw (put_out b i u l)) (cases_lt i (length b / 4))
   where
     inside : i < length b / 4 → put_word (put_word b i u) i v ≡ put_word b i v
     inside l =
@@ -262,7 +258,7 @@ put_again b i u v = ⊎_elim (λ l. rw (put_out b i u l)) inside (le_or_lt (leng
 
 -- stores to two words, in either order
 pub put_swap : (b : List ℕ) (i k u v : ℕ) → k ≢ i → put_word (put_word b i u) k v ≡ put_word (put_word b k v) i u
-put_swap b i k u v n = ⊎_elim (λ l. rw (put_out b i u l) (sym (put_out _ i u (rw (put_length b k v) l)))) (λ l. ⊎_elim (other l) (both l) (le_or_lt (length b / 4) k)) (le_or_lt (length b / 4) i)
+put_swap b i k u v n = ⊎_elim (λ l. ⊎_elim (both l) (other l) (cases_lt k (length b / 4))) (λ l. rw (put_out b i u l) (sym (put_out _ i u (rw (put_length b k v) l)))) (cases_lt i (length b / 4))
   where
     other : i < length b / 4 → length b / 4 ≤ k → put_word (put_word b i u) k v ≡ put_word (put_word b k v) i u
     other l m = put_out _ k v (rw (put_length b i u) m) ∙ ap (λ (c : List ℕ). put_word c i u) (sym (put_out b k v m))
@@ -271,9 +267,56 @@ put_swap b i k u v n = ⊎_elim (λ l. rw (put_out b i u l) (sym (put_out _ i u 
     both l m =
         put_in (put_word b i u) k v (rw (put_length b i u) m)
         ∙ ap (λ (c : List ℕ). set_word c (k * 4) v) (put_in b i u l)
-        ∙ set_swap b (i * 4) (k * 4) u v (⊎_elim (λ q. inr (omega arith)) (λ q. inl (omega arith)) (le_or_lt i k))
+        ∙ set_swap b (i * 4) (k * 4) u v (⊎_elim (λ q. inl (omega arith)) (λ q. inr (omega arith)) (cases_lt k i))
         ∙ ap (λ (c : List ℕ). set_word c (i * 4) u) (sym (put_in b k v m))
         ∙ sym (put_in (put_word b k v) i u (rw (put_length b k v) l))
 
 -- what reading and storing a word cite
 pub ruleset steps = (get_in, get_out, read_in, read_out, put_in, put_out)
+
+-- ---- one more, in a word
+pub more_is : (n : ℕ) → n < 4294967295 → one_more n ≡ n + 1
+unfolding one_more
+more_is n h = ap (λ (t : Bool). pick t (n + 1) n) (lt-ltb n 4294967295 h)
+
+pub more_stuck : (n : ℕ) → 4294967295 ≤ n → one_more n ≡ n
+unfolding one_more
+more_stuck n h = ap (λ (t : Bool). pick t (n + 1) n) (le-ltb n 4294967295 h)
+
+pub more_some : (n : ℕ) → 1 ≤ one_more n
+unfolding one_more
+more_some n = go (ltb n 4294967295) refl
+  where
+    go : (b : Bool) → ltb n 4294967295 ≡ b → 1 ≤ pick b (n + 1) n
+    go true q = omega arith
+    go false q = omega (arith, ltb-false n 4294967295 q)
+
+pub more_most : (n : ℕ) → one_more n ≤ n + 1
+unfolding one_more
+more_most n = go (ltb n 4294967295)
+  where
+    go : (b : Bool) → pick b (n + 1) n ≤ n + 1
+    go true = omega arith
+    go false = omega arith
+
+pub more_least : (n : ℕ) → n ≤ one_more n
+unfolding one_more
+more_least n = go (ltb n 4294967295)
+  where
+    go : (b : Bool) → n ≤ pick b (n + 1) n
+    go true = omega arith
+    go false = omega arith
+
+-- a list of copies of d, read with d past its end
+pub get_replicate : {A : Type 0} (d : A) (k x : ℕ) → get_or (replicate k d) x d ≡ d
+get_replicate d zero x = refl
+get_replicate d (suc k) zero = refl
+get_replicate d (suc k) (suc x) = get_replicate d k x
+
+-- a place of a list after one was set
+pub set_one : (l : List ℕ) (i n j : ℕ) → (get_or (set l i n) j 0 ≡ get_or l j 0) ⊎ ((j ≡ i) × (get_or (set l i n) j 0 ≡ n))
+set_one [] i n j = inl refl
+set_one (x ∷ l) zero n zero = inr (refl, refl)
+set_one (x ∷ l) zero n (suc j) = inl refl
+set_one (x ∷ l) (suc i) n zero = inl refl
+set_one (x ∷ l) (suc i) n (suc j) = ⊎_elim (λ e. inl e) (λ e. inr (ap suc e.0, e.1)) (set_one l i n j)

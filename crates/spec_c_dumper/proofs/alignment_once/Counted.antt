@@ -5,7 +5,7 @@ use mathlib.Core.Path.{◌≡◌, refl, ap, ◌∙◌, sym, subst}
 use mathlib.Core.List.{List, [], ◌∷◌, Memᴰ}
 use mathlib.Core.Logic.{⊎_elim}
 use lib.ListN.{length}
-use Rattle.spec_bytes.proofs.words.Laws.{le_or_lt}
+use Rattle.std.proofs.lemmas.Bool.{cases_lt}
 use Rattle.spec_c_dumper.specs.rules.Types.{Member, BtfType, Void, Int, Ptr, Array, Composite, Enum, Enum64, Fwd, Typedef, Mod, Func, Var, Datasec, FuncProto, Float, DeclTag, TypeTag, Btf, node_of, member_types}
 use Rattle.spec_c_dumper.specs.rules.Layout.{align_of, get_align_of}
 use Rattle.spec_c_dumper.specs.needs.Needs.{kids}
@@ -111,7 +111,7 @@ module _ {M : Type 0} (K : Keep M) (B : Btf) (n : ℕ) (Good : M → Type 0) (Fi
 
   taken_count : (left : ℕ) (s : Remembered) (m : M) (k : ℕ) → Good m → Counts 0 m k (taken left s m k)
   taken_count left s m k g =
-      ⊎_elim (λ l. subst (Counts 0 m k) (sym (taken_found left s m k l)) (g, omega arith)) (λ l. subst (Counts 0 m k) (sym (taken_refused left s m k l)) tt) (le_or_lt s.height left)
+      ⊎_elim (λ l. subst (Counts 0 m k) (sym (taken_refused left s m k l)) tt) (λ l. subst (Counts 0 m k) (sym (taken_found left s m k l)) (g, omega arith)) (cases_lt left s.height)
 
   keep_count : (left id : ℕ) → left < 512 → (m : M) (k : ℕ) → id < n → K.recall m id ≡ unknown → (r : Once M Remembered) → Told K B (λ i. align_of B (get_align_of i B) (B.type_by_id id)) left m r
       → Counts (member_count (B.type_by_id id)) m (suc k) r → Counts 0 m k (once_then r (keep_once K id))

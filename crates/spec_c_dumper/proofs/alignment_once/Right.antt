@@ -8,14 +8,12 @@ use mathlib.Core.List.{List, [], ◌∷◌}
 use mathlib.Core.Logic.{◌⊎◌, inl, inr, ⊎_elim}
 use lib.Dec.{leb}
 use borrow.Author.Tests.{le-leb, lt-leb}
-use Rattle.spec_bytes.proofs.words.Laws.{le_or_lt}
+use Rattle.std.proofs.lemmas.Bool.{cases_lt}
 use Rattle.spec_c_dumper.specs.rules.Writer.{Ask, got, no, ask_then, too_deep}
 use Rattle.spec_c_dumper.specs.rules.Types.{Member, BtfType, Void, Int, Ptr, Array, Composite, Enum, Enum64, Fwd, Typedef, Mod, Func, Var, Datasec, FuncProto, Float, DeclTag, TypeTag, Btf}
 use Rattle.spec_c_dumper.specs.rules.Layout.{larger, smaller, octets, align_members, align_of, get_align_of}
 use Rattle.spec_c_dumper.specs.alignment_once.Once.{Remembered, Known, unknown, known, Keep, Lawful, Once, found, refused, Asking, once_then, ask_once, memory_after, above, alone, widest, members_once, taken, type_once, keep_once, align_once, within, Tells, Right, Grows}
-
-pub no_got : {A : Type 0} → (c : ℕ) (a : A) → no c ≡ got a → ⊥
-no_got c a e = let z : ◌≡◌ {A = ℕ} 0 1 = cc in omega arith
+use Rattle.spec_c_dumper.proofs.rules.Asking.{no_got}
 
 pub known_unknown : (s : Remembered) → unknown ≡ known s → ⊥
 known_unknown s e = let z : ◌≡◌ {A = ℕ} 0 1 = cc in omega arith
@@ -38,15 +36,15 @@ same_or {P} a b f g = by (ℕ_discrete a b)
 -- ---- the larger of two
 pub first_below : (x y : ℕ) → x ≤ larger x y
 unfolding larger
-first_below x y = ⊎_elim (λ l. rw (le-leb x y l, larger) l) (λ l. rw (lt-leb x y l, larger) (omega arith)) (le_or_lt x y)
+first_below x y = ⊎_elim (λ l. rw (lt-leb x y l, larger) (omega arith)) (λ l. rw (le-leb x y l, larger) l) (cases_lt y x)
 
 pub last_below : (x y : ℕ) → y ≤ larger x y
 unfolding larger
-last_below x y = ⊎_elim (λ l. rw (le-leb x y l, larger) (omega arith)) (λ l. rw (lt-leb x y l, larger) (omega arith)) (le_or_lt x y)
+last_below x y = ⊎_elim (λ l. rw (lt-leb x y l, larger) (omega arith)) (λ l. rw (le-leb x y l, larger) (omega arith)) (cases_lt y x)
 
 pub both_below : (x y n : ℕ) → x ≤ n → y ≤ n → larger x y ≤ n
 unfolding larger
-both_below x y n h k = ⊎_elim (λ l. rw (le-leb x y l, larger) k) (λ l. rw (lt-leb x y l, larger) h) (le_or_lt x y)
+both_below x y n h k = ⊎_elim (λ l. rw (lt-leb x y l, larger) h) (λ l. rw (le-leb x y l, larger) k) (cases_lt y x)
 
 -- ---- with n calls left
 module _ (s : Remembered) (n : ℕ) where
@@ -62,9 +60,9 @@ module _ (s : Remembered) (n : ℕ) where
   unfolding within
   within_above =
       ⊎_elim
-      (λ l. let e : leb (suc s.height) (suc n) ≡ true = le-leb (suc s.height) (suc n) (omega arith) in rw (within_got l, within, e))
       (λ l. let e : leb (suc s.height) (suc n) ≡ false = lt-leb (suc s.height) (suc n) (omega arith) in rw (within_no l, within, e))
-      (le_or_lt s.height n)
+      (λ l. let e : leb (suc s.height) (suc n) ≡ true = le-leb (suc s.height) (suc n) (omega arith) in rw (within_got l, within, e))
+      (cases_lt n s.height)
 
   alone_got : (a : ℕ) → got a ≡ within (alone a) n
   unfolding within
@@ -88,19 +86,19 @@ module _ (s t : Remembered) (n : ℕ) (g : ℕ → Ask ℕ) where
 both_within : (s t : Remembered) (n : ℕ) (g : ℕ → Ask ℕ) → ask_then (within s n) (λ a. ask_then (within t n) (λ b. g (larger a b))) ≡ ask_then (within (widest s t) n) g
 both_within s t n g =
     ⊎_elim
-    (λ l. after_got s t n (λ a. ask_then (within t n) (λ b. g (larger a b))) l ∙ ⊎_elim
-    (λ k. after_got t s n (λ b. g (larger s.align b)) k ∙ sym (after_got (widest s t) t n g (both_below s.height t.height n l k)))
-    (λ k. after_no t s n (λ b. g (larger s.align b)) k ∙ sym (after_no (widest s t) t n g (omega (arith, last_below s.height t.height))))
-    (le_or_lt t.height n))
     (λ l. after_no s t n (λ a. ask_then (within t n) (λ b. g (larger a b))) l ∙ sym (after_no (widest s t) t n g (omega (arith, first_below s.height t.height))))
-    (le_or_lt s.height n)
+    (λ l. after_got s t n (λ a. ask_then (within t n) (λ b. g (larger a b))) l ∙ ⊎_elim
+    (λ k. after_no t s n (λ b. g (larger s.align b)) k ∙ sym (after_no (widest s t) t n g (omega (arith, last_below s.height t.height))))
+    (λ k. after_got t s n (λ b. g (larger s.align b)) k ∙ sym (after_got (widest s t) t n g (both_below s.height t.height n l k)))
+    (cases_lt n t.height))
+    (cases_lt n s.height)
 
 -- what is asked first is no higher than the whole
 no_lower : (s s' : Remembered) (g : ℕ → ℕ → Ask ℕ) → ((n : ℕ) → ask_then (within s n) (g n) ≡ within s' n) → s.height ≤ s'.height
 no_lower s s' g h =
-    ⊎_elim (λ l. l)
-    (λ l. absurd (no_got 12 s'.align (sym (after_no s s s'.height (g s'.height) l) ∙ h s'.height ∙ within_got s' s'.height (omega arith))))
-    (le_or_lt s.height s'.height)
+    ⊎_elim (λ l. absurd (no_got 12 s'.align (sym (after_no s s s'.height (g s'.height) l) ∙ h s'.height ∙ within_got s' s'.height (omega arith))))
+    (λ l. l)
+    (cases_lt s'.height s.height)
 
 -- "taking a remembered alignment counts none"
 module _ {M : Type 0} (left : ℕ) (s : Remembered) (m : M) (k : ℕ) where
@@ -199,9 +197,9 @@ module _ {M : Type 0} (K : Keep M) (B : Btf) where
     taken_told : (left id : ℕ) (s : Remembered) (m : M) (k : ℕ) → Right K B m → K.recall m id ≡ known s → Told (align_of_lem id) left m (taken left s m k)
     taken_told left id s m k r e =
         ⊎_elim
-        (λ l. subst (Told (align_of_lem id) left m) (sym (taken_found left s m k l)) (r id s e, l, r, λ d s q. q, λ d s q. inl q))
         (λ l. subst (Told (align_of_lem id) left m) (sym (taken_refused left s m k l)) (r id s e left ∙ within_no s left l, r, λ d s q. q))
-        (le_or_lt s.height left)
+        (λ l. subst (Told (align_of_lem id) left m) (sym (taken_found left s m k l)) (r id s e, l, r, λ d s q. q, λ d s q. inl q))
+        (cases_lt left s.height)
 
     -- what the plain way says of id, from what its calls below come to
     pub above_tells : (id : ℕ) (s : Remembered) → ((i : ℕ) → align_of B (get_align_of i B) (B.type_by_id id) ≡ within s i) → Tells B id (above s)

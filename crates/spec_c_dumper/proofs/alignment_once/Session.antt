@@ -8,8 +8,8 @@ use mathlib.Core.List.{List, [], ◌∷◌, ◌++◌}
 use mathlib.Core.Logic.{⊎_elim}
 use lib.ListN.{length, get_or, set, length-set, length-replicate}
 use lib.Dec.{leb}
+use Rattle.std.proofs.lemmas.Bool.{cases_lt}
 use Rattle.spec_bytes.specs.text.Text.{Text, whole, cut, bytes}
-use Rattle.spec_bytes.proofs.words.Laws.{le_or_lt}
 use Rattle.spec_c_dumper.specs.rules.Order.{new}
 use Rattle.spec_c_dumper.specs.rules.Machine.{Sess, Req, one, all}
 use Rattle.spec_c_dumper.specs.rules.Writer.{Ask, got, no, Said, Writer, stop, given}
@@ -59,7 +59,7 @@ module _ {St U : Type 0} (Q : Asks St) (N' : Naming St) (N : Naming U) (B : Btf)
         by (refused c v' k) e = subst (λ (y : Ask A). RelSaid Pair (stop c v) (given y g u)) (sym e) (rel_stop Pair c v u r)
 
   inside : (id : ℕ) (s : Bool) (m : Name) (z : ℕ) (ms : List Member) → B.type_by_id id ≡ Composite s m z ms → id < cnt
-  inside id s m z ms e = ⊎_elim (λ l. absurd (void_composite s m z ms (sym (ends id l) ∙ e))) (λ l. l) (le_or_lt cnt id)
+  inside id s m z ms e = ⊎_elim (λ l. l) (λ l. absurd (void_composite s m z ms (sym (ends id l) ∙ e))) (cases_lt id cnt)
 
   -- what is asked of a session: naming and questions
   pub record Sound : Type 0 where

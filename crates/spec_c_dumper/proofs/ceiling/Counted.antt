@@ -8,7 +8,7 @@ use mathlib.Core.Logic.{⊎_elim}
 use native.Mathlib.Omega.{arith}
 use lib.Dec.{ltb, leb}
 use borrow.Author.Tests.{lt-ltb, le-ltb, le-leb, lt-leb}
-use Rattle.spec_bytes.proofs.words.Laws.{le_or_lt}
+use Rattle.std.proofs.lemmas.Bool.{cases_lt}
 use Rattle.spec_c_dumper.specs.rules.Order.{Node, ignored, plain, listed, through, ptr, tdef, proto, comp, Table, is_comp, Mark, new, busy, done, is_done, Store, Res, ok, refused, bind, each, meet, finish, enter, alias, fresh, visit, order}
 use Rattle.spec_c_dumper.specs.rules.Machine.{Machine, Sess, Answer, shut, ordered, gate, single, onward, from, every}
 use Rattle.spec_c_dumper.specs.ceiling.Ceiling.{Told, told, halted, then_bind, each_within, meet_within, enter_within, alias_within, fresh_within, visit_within, most, allows, one_call, order_within, onwards, calls_each, calls_enter, calls_fresh, calls_visit, calls, Counted, ordered_within, gate_within, single_within, onward_within, list_plain, list_within, from_within, every_within}
@@ -51,9 +51,9 @@ module _ {St : Type 0} (c : ℕ) where
     unfolding then_bind
     cap_bind k m r =
         ⊎_elim
-        (λ l. ap (λ (t : Told St). then_bind t F) (fits r (k + m) l) ∙ fits_bind k m l r)
         (λ l. ap (λ (t : Told St). then_bind t F) (over r (k + m) l) ∙ sym (over (bind r f) (k + (m + onwards r g)) (omega arith)))
-        (le_or_lt (k + m) c)
+        (λ l. ap (λ (t : Told St). then_bind t F) (fits r (k + m) l) ∙ fits_bind k m l r)
+        (cases_lt c (k + m))
 
   module _ (F : St → ℕ → ℕ → Told St) (f : St → ℕ → Res St) (g : St → ℕ → ℕ) (h : (s : St) (y j : ℕ) → j ≤ c → F s y j ≡ at_most c (f s y) (j + g s y)) where
     each_is : (ys : List ℕ) (s : St) (b : Bool) (k : ℕ) → k ≤ c → each_within F ys s b k ≡ at_most c (each f ys s b) (k + calls_each f g ys s)
@@ -136,7 +136,7 @@ module _ {St : Type 0} (c : ℕ) where
           ∙ ap (at_most c (visit K T (λ s' y w. order K n T s' y w) s x weak (K.get s x))) e)
 
       call_is : order_within K (most c) (suc n) T s x weak k ≡ at_most c (order K (suc n) T s x weak) (k + suc inside)
-      call_is = ⊎_elim stays goes (le_or_lt c k)
+      call_is = ⊎_elim goes stays (cases_lt k c)
 
     -- THE THEOREM: what ordering under the ceiling comes to
     pub order_is : (n : ℕ) (T : Table) (s : St) (x : ℕ) (weak : Bool) (k : ℕ) → k ≤ c → order_within K (most c) n T s x weak k ≡ at_most c (order K n T s x weak) (k + calls K n T s x weak)
@@ -184,13 +184,13 @@ module _ {M : Type 0} (X : Machine M) (T : Table) where
   gate_plain c room S x k l true false n = record { same_answer = refl; at_most_lem = l; larger = λ c' i. refl }
   gate_plain c room S x k l true true n =
       ⊎_elim
+      (λ i. absurd (n (ap (λ (a : Counted M). a.answer.number) (gate_over c room S x k l i))))
       (λ i. record {
         same_answer = ap (λ (a : Counted M). a.answer) (gate_fits c room S x k i);
         at_most_lem = subst (λ (j : ℕ). j ≤ c) (sym (ap (λ (a : Counted M). a.made) (gate_fits c room S x k i))) i;
         larger = λ c' j. gate_fits c' room S x k (omega arith) ∙ sym (gate_fits c room S x k i);
       })
-      (λ i. absurd (n (ap (λ (a : Counted M). a.answer.number) (gate_over c room S x k l i))))
-      (le_or_lt (k + opens room S x) c)
+      (cases_lt c (k + opens room S x))
 
   -- "A request that fits under one ceiling gives the same text and count under every larger one."
   pub single_fits : (c room : ℕ) (S : Sess M) (x k : ℕ) → k ≤ c → ((single_within X T c room S x k).answer.number ≡ 22 → ⊥) → Fits c (single X T room S x) (λ c'. single_within X T c' room S x k)

@@ -24,7 +24,7 @@ use Rattle.spec_c_dumper.proofs.needs.Keeping.{Leaves, leaves, stops, Steps, run
 
 -- ---- how a body opens
 module _ {U : Type 0} where
-  abbrev text_in : Said U → List ℕ
+  abbrev pub text_in : Said U → List ℕ
   text_in (said u (whole a)) = a
   text_in (said u (cut a c)) = a
 

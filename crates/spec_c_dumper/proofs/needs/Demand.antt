@@ -7,7 +7,9 @@ use mathlib.Core.List.Memᴰ
 use mathlib.Core.List.{List, [], ◌∷◌, ◌++◌, append_assoc, append-nil, Memᴰ}
 use mathlib.Core.Logic.{◌⊎◌, inl, inr, ◌↔◌}
 use lib.ListN.{length}
-use lib.Dec.{T as True, ltb, ltb→lt, lt→ltb}
+use lib.Dec.{ltb}
+use borrow.Author.Tests.{ltb-true, both_ways, lt-ltb}
+use Rattle.std.proofs.lemmas.Bool.{and_parts}
 use Rattle.spec_c_dumper.specs.rules.Order.{Table, is_comp, Mark, new, busy, done, Res, ok, refused}
 use Rattle.spec_c_dumper.specs.needs.Needs.{weaken, Way, here, past, NamedComp, MeetsTwice, WF}
 use Rattle.spec_c_dumper.proofs.needs.Placed.{Listable, keep, defs, Placed, Sorted, none, snoc}
@@ -16,22 +18,9 @@ use Rattle.spec_c_dumper.proofs.needs.Sound.{hit_lower, Ready, Ordered, Holds, g
 use Rattle.spec_c_dumper.specs.rules.Machine.{Out, wrote, stuck, Machine, OHolds, ogood, obad, Same, OrderKeeps, MLawful, eeach, emit, Sess, Answer, Req, one, all, shut, emitted, ordered, ordering, gate, single, onward, from, every, serve, run}
 use Rattle.spec_c_dumper.proofs.needs.Quiet.{oholds_bind, oholds_map, defs_append, defs_one, EBusy, TopPost, Sound-top, emit_top}
 use Rattle.spec_c_dumper.specs.needs.Demand.{Once, Demand3}
+use Rattle.spec_c_dumper.proofs.needs.Splits.{nil_not, snoc_split}
 
 -- lists
-
-nil_not : (l k : List ℕ) (c : ℕ) → [] ≡ l ++ (c ∷ k) → ⊥
-nil_not [] k c e = let z : ◌≡◌ {A = ℕ} 0 1 = cc in omega arith
-nil_not (x ∷ l) k c e = let z : ◌≡◌ {A = ℕ} 0 1 = cc in omega arith
-
-snoc_split : (l l₁ l₂ : List ℕ) (x c : ℕ) → l ++ (x ∷ []) ≡ l₁ ++ (c ∷ l₂) → ((l ≡ l₁) × (x ≡ c)) ⊎ ((k : List ℕ) × (l ≡ l₁ ++ (c ∷ k)))
-snoc_split [] [] l₂ x c e = inl (refl, cc)
-snoc_split (a ∷ l) [] l₂ x c e = inr (l, cc)
-snoc_split [] (b ∷ l₁) l₂ x c e = let z : [] ≡ l₁ ++ (c ∷ l₂) = cc in absurd (nil_not l₁ l₂ c z)
-snoc_split (a ∷ l) (b ∷ l₁) l₂ x c e = let h : a ≡ b = cc in go h (snoc_split l l₁ l₂ x c (cc))
-  where
-    go : a ≡ b → ((l ≡ l₁) × (x ≡ c)) ⊎ ((k : List ℕ) × (l ≡ l₁ ++ (c ∷ k))) → ((a ∷ l ≡ b ∷ l₁) × (x ≡ c)) ⊎ ((k : List ℕ) × (a ∷ l ≡ b ∷ (l₁ ++ (c ∷ k))))
-    go h (inl q) = let q₀ : l ≡ l₁ = q.0 in inl (cc, q.1)
-    go h (inr q) = let q₁ : l ≡ l₁ ++ (c ∷ q.0) = q.1 in inr (q.0, cc)
 
 sorted_split : (T : Table) {L : List ℕ} → Sorted T L → (l₁ l₂ : List ℕ) (c : ℕ) → L ≡ l₁ ++ (c ∷ l₂) → NamedComp T c → Placed T l₁ c
 sorted_split T none l₁ l₂ c e nc = absurd (nil_not l₁ l₂ c e)
@@ -47,10 +36,6 @@ mem_split c (x ∷ l) (Memᴰ.head e) = ([], l, ap (λ (k : ℕ). k ∷ l) (sym 
 mem_split c (x ∷ l) (Memᴰ.tail m) = let q = mem_split c l m in (x ∷ q.0, q.1, ap {B = List ℕ} (λ k. x ∷ k) q.2)
 
 -- the named composites of a list
-
-and_true : (a b : Bool) → (a && b) ≡ true → (a ≡ true) × (b ≡ true)
-and_true true b e = (refl, e)
-and_true false b e = absurd (true≢false (sym e))
 
 defs_mem : (T : Table) (x : ℕ) (l : List ℕ) → Memᴰ x l → NamedComp T x → Memᴰ x (defs T l)
 unfolding defs
@@ -71,7 +56,7 @@ mem_defs T x (y ∷ l) m = go (mem_defs T x l) (is_comp (T.node y) && T.named y)
     go r true e m' = pick (Memᴰ.cases_cons m')
       where
         pick : (x ≡ y) ⊎ Memᴰ x (defs T l) → Memᴰ x (y ∷ l) × NamedComp T x
-        pick (inl q) = (Memᴰ.head q, subst (NamedComp T) (sym q) (and_true (is_comp (T.node y)) (T.named y) e))
+        pick (inl q) = (Memᴰ.head q, subst (NamedComp T) (sym q) (and_parts (is_comp (T.node y)) (T.named y) e))
         pick (inr k) = let h = r k in (Memᴰ.tail h.0, h.1)
     go r false e m' = let h = r m' in (Memᴰ.tail h.0, h.1)
 
@@ -88,14 +73,8 @@ sorted_defs T (snoc {l = l} {x = x} h f) = go (sorted_defs T h) (is_comp (T.node
     placed nc = let p = f nc in record { once = λ m. p.once (mem_defs T x l m).0; after = λ d v n. defs_mem T d l (p.after d v n) (via_comp T v, n) }
 
     go : Sorted T (defs T l) → (k : Bool) → (is_comp (T.node x) && T.named x) ≡ k → Sorted T (defs T (l ++ (x ∷ [])))
-    go r true e = rw (defs_append T l (x ∷ []), defs_one T x (and_true (is_comp (T.node x)) (T.named x) e)) (snoc r placed)
+    go r true e = rw (defs_append T l (x ∷ []), defs_one T x (and_parts (is_comp (T.node x)) (T.named x) e)) (snoc r placed)
     go r false e = rw (defs_append T l (x ∷ []), defs_drop T x e, append-nil (defs T l)) r
-
-ltb_yes : (m n : ℕ) → ltb m n ≡ true → m < n
-ltb_yes m n e = ltb→lt m n (subst True (sym e) tt)
-
-ltb_not : (m n : ℕ) → m < n → ltb m n ≡ false → ⊥
-ltb_not m n h e = subst True e (lt→ltb m n h)
 
 sorted_once : (T : Table) (l : List ℕ) → Sorted T l → (c : ℕ) → NamedComp T c → Memᴰ c l → Once c l
 sorted_once T l o c nc m = record {
@@ -287,8 +266,8 @@ module _ {M : Type 0} (X : Machine M) (T : Table) (Good : M → Type 0) (ml : ML
   gate_ok : (room : ℕ) (S : Sess M) (x : ℕ) → SInv S → (o b : Bool) → S.is_open ≡ o → ltb x T.count ≡ b → Served room S x (gate X T room S x o b)
   unfolding gate
   gate_ok room S x i false b e f = record { inv = i; cycle = λ p l nc d. absurd (true≢false (sym p ∙ e)) }
-  gate_ok room S x i true false e f = record { inv = i; cycle = λ p l nc d. absurd (ltb_not x T.count l f) }
-  gate_ok room S x i true true e f = ordered_ok room S x i (i.live e room).1 (ordering X T room S x) refl (request_ok X.store T Good ml.law (OrderKeeps X Good) ml.framed wf i.whole (X.start room S.mach) x 512 (i.live e room).0 (ltb_yes x T.count f))
+  gate_ok room S x i true false e f = record { inv = i; cycle = λ p l nc d. absurd (both_ways _ f (lt-ltb x T.count l)) }
+  gate_ok room S x i true true e f = ordered_ok room S x i (i.live e room).1 (ordering X T room S x) refl (request_ok X.store T Good ml.law (OrderKeeps X Good) ml.framed wf i.whole (X.start room S.mach) x 512 (i.live e room).0 (ltb-true x T.count f))
 
   single_ok : (room : ℕ) (S : Sess M) (x : ℕ) → SInv S → Served room S x (single X T room S x)
   unfolding single

@@ -3,30 +3,19 @@ use Prim.Native.Nat.{ℕ, zero, suc, ◌<◌, ◌≤◌}
 use native.Mathlib.Decide.{ℕ_discrete}
 use native.Mathlib.Omega.{arith}
 use mathlib.Core.Path.{◌≡◌, refl, ap, ◌∙◌, sym, subst}
-use mathlib.Core.Bool.{Bool, true, false, not, ◌&&◌, ◌||◌, true≢false}
+use mathlib.Core.Bool.{Bool, true, false, not, ◌||◌, true≢false}
 use mathlib.Core.List.Memᴰ
 use mathlib.Core.List.{List, [], ◌∷◌, Memᴰ}
 use mathlib.Core.Logic.{⊎_elim}
 use lib.Dec.{ltb}
-use borrow.Author.Tests.{ltb-true}
-use Rattle.spec_bytes.proofs.words.Laws.{le_or_lt}
+use borrow.Author.Tests.{ltb-true, not-true}
+use Rattle.std.proofs.lemmas.Bool.{cases_lt}
+use Rattle.std.specs.Cmp.{first_so, second_so}
 use Rattle.spec_c_dumper.specs.rules.Order.{Node, ignored, plain, listed, through, ptr, tdef, proto, comp, Table}
 use Rattle.spec_c_dumper.specs.needs.Needs.{kids, is_holder, WF}
 use Rattle.spec_c_dumper.specs.needs.Proto.{yes_proto, nothing, to, step_of, chase}
 use Rattle.spec_c_dumper.specs.needs.Fit.{is_plain, all_below, none_proto, fit_node, fit_to, fit}
 use Rattle.spec_c_dumper.proofs.needs.Proto.{chase_no}
-
-and_left : (a b : Bool) → (a && b) ≡ true → a ≡ true
-and_left true b e = refl
-and_left false b e = absurd (true≢false (sym e))
-
-and_right : (a b : Bool) → (a && b) ≡ true → b ≡ true
-and_right true b e = e
-and_right false b e = absurd (true≢false (sym e))
-
-not_true : (a : Bool) → not a ≡ true → a ≡ false
-not_true true e = absurd (true≢false (sym e))
-not_true false e = refl
 
 or_right : (a b : Bool) → a ≡ true → (not a || b) ≡ true → b ≡ true
 or_right true b h e = e
@@ -45,15 +34,15 @@ plain_is (comp ts) e = absurd (true≢false (sym e))
 below_mem : (n : ℕ) (l : List ℕ) → all_below n l ≡ true → (y : ℕ) → Memᴰ y l → y < n
 unfolding all_below
 below_mem n [] e y h = absurd (Memᴰ.not-nil h)
-below_mem n (x ∷ l) e y (Memᴰ.head q) = subst (λ (z : ℕ). z < n) (sym q) (ltb-true x n (and_left (ltb x n) (all_below n l) e))
-below_mem n (x ∷ l) e y (Memᴰ.tail h) = below_mem n l (and_right (ltb x n) (all_below n l) e) y h
+below_mem n (x ∷ l) e y (Memᴰ.head q) = subst (λ (z : ℕ). z < n) (sym q) (ltb-true x n (first_so (ltb x n) (all_below n l) e))
+below_mem n (x ∷ l) e y (Memᴰ.tail h) = below_mem n l (second_so (ltb x n) (all_below n l) e) y h
 
 none_mem : (T : Table) (l : List ℕ) → none_proto T l ≡ true → (y : ℕ) → Memᴰ y l → chase T.count T y ≡ false
 unfolding none_proto
 none_mem T [] e y h = absurd (Memᴰ.not-nil h)
 none_mem T (x ∷ l) e y (Memᴰ.head q) =
-    ap (chase T.count T) q ∙ not_true (chase T.count T x) (and_left (not (chase T.count T x)) (none_proto T l) e)
-none_mem T (x ∷ l) e y (Memᴰ.tail h) = none_mem T l (and_right (not (chase T.count T x)) (none_proto T l) e) y h
+    ap (chase T.count T) q ∙ not-true (chase T.count T x) (first_so (not (chase T.count T x)) (none_proto T l) e)
+none_mem T (x ∷ l) e y (Memᴰ.tail h) = none_mem T l (second_so (not (chase T.count T x)) (none_proto T l) e) y h
 
 plain_fit : (T : Table) → fit_node T plain ≡ true
 unfolding fit_node all_below
@@ -65,10 +54,10 @@ each_fit T zero e x l = absurd (none l)
   where
     none : x < 0 → ⊥
     none z = omega arith
-each_fit T (suc k) e x l = go (each_fit T k (and_right (fit_node T (T.node k)) (fit_to T k) e) x) (ℕ_discrete x k)
+each_fit T (suc k) e x l = go (each_fit T k (second_so (fit_node T (T.node k)) (fit_to T k) e) x) (ℕ_discrete x k)
   where
     go : (x < k → fit_node T (T.node x) ≡ true) → Dec (x ≡ k) → fit_node T (T.node x) ≡ true
-    go f (yes q) = ap (λ (z : ℕ). fit_node T (T.node z)) q ∙ and_left (fit_node T (T.node k)) (fit_to T k) e
+    go f (yes q) = ap (λ (z : ℕ). fit_node T (T.node z)) q ∙ first_so (fit_node T (T.node k)) (fit_to T k) e
     go f (no q) = f (omega arith)
 
 no_step : {A : Type 0} (t : ℕ) → nothing ≡ to t → A
@@ -91,25 +80,25 @@ module _ (T : Table) (past : (x : ℕ) → T.count ≤ x → T.node x ≡ plain)
   node_fit : (x : ℕ) → fit_node T (T.node x) ≡ true
   unfolding fit
   node_fit x = ⊎_elim
+      (λ l. each_fit T T.count (second_so (is_plain (T.node 0)) (fit_to T T.count) e) x l)
       (λ l. ap (fit_node T) (past x l) ∙ plain_fit T)
-      (λ l. each_fit T T.count (and_right (is_plain (T.node 0)) (fit_to T T.count) e) x l)
-      (le_or_lt T.count x)
+      (cases_lt x T.count)
 
   kids_below : (x y : ℕ) → Memᴰ y (kids (T.node x)) → y < T.count
   unfolding fit_node
-  kids_below x y h = below_mem T.count (kids (T.node x)) (and_left _ _ (node_fit x)) y h
+  kids_below x y h = below_mem T.count (kids (T.node x)) (first_so _ _ (node_fit x)) y h
 
   members_free : (c m : ℕ) → is_holder (T.node c) ≡ true → Memᴰ m (kids (T.node c)) → chase T.count T m ≡ false
   unfolding fit_node
   members_free c m i h =
       none_mem T (kids (T.node c))
       (or_right (is_holder (T.node c)) (none_proto T (kids (T.node c))) i
-      (and_right (all_below T.count (kids (T.node c))) (not (is_holder (T.node c)) || none_proto T (kids (T.node c))) (node_fit c)))
+      (second_so (all_below T.count (kids (T.node c))) (not (is_holder (T.node c)) || none_proto T (kids (T.node c))) (node_fit c)))
       m h
 
   void_plain : T.node 0 ≡ plain
   unfolding fit
-  void_plain = plain_is (T.node 0) (and_left (is_plain (T.node 0)) _ e)
+  void_plain = plain_is (T.node 0) (first_so (is_plain (T.node 0)) _ e)
 
   pub fit_wf : WF T
   fit_wf = record {

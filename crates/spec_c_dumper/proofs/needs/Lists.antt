@@ -1,10 +1,11 @@
 -- The machine of lists is lawful, and demand 3 holds of it, if no line is refused as a cycle.
-use Prim.Native.Nat.{ℕ, zero, suc, ◌<◌}
+use Prim.Native.Nat.{ℕ, ◌<◌}
 use mathlib.Core.Path.{◌≡◌, refl, sym, ◌∙◌, ap, subst}
 use mathlib.Core.Bool.{true}
 use mathlib.Core.List.{List, [], ◌∷◌, ◌++◌, append-nil}
-use lib.ListN.{length, get_or, length-set, replicate, length-replicate}
+use lib.ListN.{length, length-set, length-replicate}
 use lib.Seq.{get_or-set_same, get_or-set_other}
+use Rattle.spec_bytes.proofs.words.Laws.{get_replicate}
 use Rattle.spec_c_dumper.specs.rules.Order.{Table, new}
 use Rattle.spec_c_dumper.specs.rules.Machine.{Fine, OHolds, ogood, obad, Same, Defines, MLawful, Req, run}
 use Rattle.spec_c_dumper.specs.needs.Needs.{WF}
@@ -76,18 +77,13 @@ module _ {U : Type 0} where
       body_defines = λ s x g l. def_put s x g (L.body' s.room s.known x) (fine.f_body s.room s.known x);
     }
 
-all_new : (k x : ℕ) → get_or (replicate k new) x new ≡ new
-all_new zero x = refl
-all_new (suc k) zero = refl
-all_new (suc k) (suc x) = all_new k x
-
 -- Demand 3 for plain lists, over any lines that are not refused as cycles.
 pub lists_demand3 : {U : Type 0} (L : Lines U) → FineLines L → (T : Table) → WF T → (u : U) (rs : List Req)
     → Demand3 (list_machine L) T (run (list_machine L) T rs (record { is_open = true; mach = afresh T.count u; asked = [] }))
 unfolding afresh tags_of
 lists_demand3 {U} L fine T wf u rs = demand3 (list_machine L) T (Sized T.count) (list_lawful L fine T.count) wf (afresh T.count u) (record {
   fit = record { marks_n = length-replicate T.count new; emits_n = length-replicate T.count new };
-  all_new = all_new T.count;
-  all_unemitted = all_new T.count;
+  all_new = get_replicate new T.count;
+  all_unemitted = get_replicate new T.count;
   no_text = refl;
 }) rs

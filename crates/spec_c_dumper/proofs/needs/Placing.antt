@@ -8,8 +8,8 @@ use lib.Dec.{leb}
 use borrow.Author.Tests.{le-leb, lt-leb}
 use mathlib.Core.Logic.{⊎_elim}
 use native.Mathlib.Omega.{arith}
+use Rattle.std.proofs.lemmas.Bool.{cases_lt}
 use Rattle.std.specs.Prelude.{Ok}
-use Rattle.spec_bytes.proofs.words.Laws.{le_or_lt}
 use Rattle.spec_bytes.specs.text.Text.{Text, whole, cut, bytes}
 use Rattle.spec_bytes.specs.text.Placed.{Out, stopped, place, written, put_text}
 use Rattle.spec_c_dumper.specs.rules.Writer.{Said, said}
@@ -27,9 +27,9 @@ line_out t at (cannot e) = refused e
 room_left : (t : List ℕ) (len n : ℕ) → len ≤ length t → leb (len + n) (length t) ≡ leb n (length t - len)
 room_left t len n l =
     ⊎_elim
-    (λ h. le-leb (len + n) (length t) (omega arith) ∙ sym (le-leb n (length t - len) h))
     (λ h. lt-leb (len + n) (length t) (omega arith) ∙ sym (lt-leb n (length t - len) h))
-    (le_or_lt n (length t - len))
+    (λ h. le-leb (len + n) (length t) (omega arith) ∙ sym (le-leb n (length t - len) h))
+    (cases_lt (length t - len) n)
 
 module _ {U : Type 0} (t : List ℕ) (len : ℕ) where
   fits : (u : U) (x : Text) → line_out t len (fitting len u x) ≡ with_names u (written t len x)

@@ -9,10 +9,11 @@ use mathlib.Core.List.{List, [], ◌∷◌, ◌++◌, append_assoc, Memᴰ}
 use mathlib.Core.Logic.{◌⊎◌, inl, inr, ◌≢◌}
 use mathlib.Core.WellFounded.{Acc}
 use lib.ListN.{length, length-append}
+use Rattle.std.proofs.lemmas.Bool.{and_parts}
 use Rattle.spec_c_dumper.specs.rules.Order.{Node, ignored, plain, listed, through, ptr, tdef, proto, comp, Table, is_comp, Mark, new, busy, done, is_done, Store, Lawful, Framed, Res, ok, refused, bind, each, meet, push_if, finish as finish_k, enter, alias, fresh, visit, order}
 use Rattle.spec_c_dumper.specs.needs.Needs.{kids, weaken, is_array, Way, here, past, Needs, NamedComp, Via, direct, through_nameless, MeetsTwice, WF}
 use Rattle.spec_c_dumper.proofs.needs.Placed.{is_def, Listable, Placed, Sorted, snoc}
-use Rattle.spec_c_dumper.proofs.needs.Ways.{clash, clash_new, clash_busy, only, loosen, loosen_mono, stop, Loops, Gee, gee_past, gee_weaken, gee_member, way_lower, via_comp, agree, and_yes, and_no, or_yes, loops_twice, acc_once, tally, tally_mono, tally_room, tally_more}
+use Rattle.spec_c_dumper.proofs.needs.Ways.{clash, clash_new, clash_busy, only, loosen, loosen_mono, stop, Loops, Gee, gee_past, gee_weaken, gee_member, way_lower, via_comp, agree, and_no, or_yes, loops_twice, acc_once, tally, tally_mono, tally_room, tally_more}
 
 -- What a result comes to: Q of the state and the report, or a refusal, 12, or 13 with E.
 
@@ -383,8 +384,8 @@ module _ {St : Type 0} (K : Store St) (T : Table) (Good : St → Type 0) (law : 
       skipped c e = record { inv = i; grew = grew_refl s; frame = framed.fr_same s; met = none_met; strong = λ q. absurd (true≢false (sym q)) }
         where
           none_met : Hit s x weak
-          none_met d v (here c' q f) (inl n) = absurd (true≢false (sym (and_yes weak (T.named x) e).1 ∙ ap T.named q ∙ n))
-          none_met d v (here c' q f) (inr r) = absurd (true≢false (sym (and_yes weak (T.named x) e).0 ∙ f ∙ r))
+          none_met d v (here c' q f) (inl n) = absurd (true≢false (sym (and_parts weak (T.named x) e).1 ∙ ap T.named q ∙ n))
+          none_met d v (here c' q f) (inr r) = absurd (true≢false (sym (and_parts weak (T.named x) e).0 ∙ f ∙ r))
           none_met d v (past nc m way) due = absurd (true≢false (sym c ∙ nc))
 
       enter_ok : (ms : List ℕ) → T.node x ≡ comp ms → get s x ≡ new → (b : Bool) → (weak && T.named x) ≡ b → Holds (Post pre s x weak) E (enter K b (λ s' y. rec s' y false) s x (T.named x) ms)

@@ -3,7 +3,7 @@ use Prim.Native.Nat.{ℕ, zero, suc, ◌+◌, ◌<◌, ◌≤◌}
 use native.Mathlib.Decide.{ℕ_discrete}
 use native.Mathlib.Omega.{arith}
 use mathlib.Core.Path.{◌≡◌, refl, sym, ◌∙◌, ap, subst}
-use mathlib.Core.Bool.{Bool, true, false, not, ◌&&◌, ◌||◌, true≢false}
+use mathlib.Core.Bool.{Bool, true, false, not, ◌&&◌, ◌||◌}
 use mathlib.Core.List.Memᴰ
 use mathlib.Core.List.{List, [], ◌∷◌, Memᴰ}
 use mathlib.Core.Logic.{◌⊎◌, inl, inr}
@@ -151,10 +151,6 @@ module _ (T : Table) where
       after (inl q) = inl q
       after (inr (inl h)) = inr (λ p. h.1 (on c h.0 m p))
       after (inr (inr h)) = inr h
-
-pub and_yes : (a b : Bool) → (a && b) ≡ true → (a ≡ true) × (b ≡ true)
-and_yes true b e = (refl, e)
-and_yes false b e = (e, absurd (true≢false (sym e)))
 
 pub and_no : (a b : Bool) → (a && b) ≡ false → (b ≡ false) ⊎ (a ≡ false)
 and_no true b e = inl e

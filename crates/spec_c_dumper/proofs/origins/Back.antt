@@ -5,16 +5,16 @@ use mathlib.Core.Bool.{Bool, true, false, not, ◌&&◌, ◌||◌}
 use mathlib.Core.List.{List, [], ◌∷◌, ◌++◌}
 use mathlib.Core.Logic.{◌⊎◌, inl, inr, ⊎_elim, ◌≢◌}
 use native.Mathlib.Decide.{ℕ_discrete}
-use native.Mathlib.Omega.{arith}
 use lib.ListN.{length, length-set, get_or, set, get_or-eq_default}
 use lib.Seq.{get_or-set_same, get_or-set_other}
 use lib.Dec.{eqb}
-use Rattle.spec_bytes.proofs.words.Laws.{le_or_lt}
+use Rattle.std.proofs.lemmas.Bool.{cases_lt}
 use Rattle.spec_c_dumper.specs.rules.Order.{Node, ignored, plain, listed, through, ptr, tdef, proto, comp, Table, Mark, new, busy, done}
 use Rattle.spec_c_dumper.specs.rules.Machine.{Out, wrote, stuck, Machine, is_zero, pick, obind, eeach, once, mention, again, close, leaf, within, begin, allowed, look}
 use Rattle.spec_c_dumper.specs.needs.Lists.{Piece, defines, other, Line, says, cannot, Lines, Ls, put_line, list_machine}
 use Rattle.spec_c_dumper.specs.origins.Causes.{Entry, entry, Noted, with_entries, line, cause_at, noting, emit_noted}
 use Rattle.spec_c_dumper.proofs.origins.Keeps.{Comes, comes, halts, comes_bind, comes_map}
+use Rattle.spec_c_dumper.proofs.listed_twice.Ordering.{new_busy, done_busy}
 
 -- what is asked of a machine's marks
 pub record Turns {M : Type 0} (X : Machine M) : Type 0 where
@@ -146,15 +146,6 @@ module _ {M : Type 0} (X : Machine M) (room : ℕ → Bool) (shows : ℕ → Boo
   emit_back (suc n) s x cont = look_back x cont (λ s' y d. emit_noted X room shows why T n s' y d) (λ s' y d. emit_back n s' y d) s (X.eget s.mach x)
 
 -- ---- the machine of lists
-new_busy : new ≡ busy → ⊥
-new_busy e = let z : ◌≡◌ {A = ℕ} 0 1 = cc in omega arith
-
-done_busy : done ≡ busy → ⊥
-done_busy e = let z : ◌≡◌ {A = ℕ} 0 1 = cc in omega arith
-
-lt_or_le : (a b : ℕ) → (a < b) ⊎ (b ≤ a)
-lt_or_le a b = ⊎_elim inr inl (le_or_lt b a)
-
 -- a mark of another kind at x, within the list or past its end
 set_back : (l : List Mark) (x y : ℕ) (m : Mark) → (m ≡ busy → ⊥) → get_or (set l x m) y new ≡ busy → (y ≢ x) × (get_or l y new ≡ busy)
 set_back l x y m nb e = by (ℕ_discrete y x)
@@ -164,7 +155,7 @@ set_back l x y m nb e = by (ℕ_discrete y x)
     at q (inr i) = new_busy (sym (get_or-eq_default (set l x m) new {n = x} (subst (λ (k : ℕ). k ≤ x) (sym (length-set l x m)) i)) ∙ q)
 
     by : Dec (y ≡ x) → (y ≢ x) × (get_or l y new ≡ busy)
-    by (yes q) = absurd (at (ap (λ (z : ℕ). get_or (set l x m) z new) (sym q) ∙ e) (lt_or_le x (length l)))
+    by (yes q) = absurd (at (ap (λ (z : ℕ). get_or (set l x m) z new) (sym q) ∙ e) (cases_lt x (length l)))
     by (no q) = (q, sym (get_or-set_other l x y m new q) ∙ e)
 
 busy_back : (l : List Mark) (x y : ℕ) → get_or (set l x busy) y new ≡ busy → (y ≡ x) ⊎ (get_or l y new ≡ busy)

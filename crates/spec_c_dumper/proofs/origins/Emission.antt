@@ -9,7 +9,7 @@ use native.Mathlib.Omega.{arith}
 use lib.ListN.{length, length-append}
 use lib.Dec.{eqb}
 use borrow.Author.Tests.{lt-ltb, le-ltb}
-use Rattle.spec_bytes.proofs.words.Laws.{le_or_lt}
+use Rattle.std.proofs.lemmas.Bool.{cases_lt}
 use Rattle.spec_c_dumper.specs.rules.Order.{Node, ignored, plain, listed, through, ptr, tdef, proto, comp, Table, Mark, new, busy, done}
 use Rattle.spec_c_dumper.specs.rules.Machine.{Out, wrote, stuck, Machine, is_zero, pick, obind, eeach, once, mention, again, close, leaf, within, begin, allowed, look, emit}
 use Rattle.spec_c_dumper.specs.origins.Causes.{Entry, entry, Noted, with_entries, up_to, always, line, cause_at, noting, emit_noted}
@@ -99,7 +99,7 @@ module _ {M : Type 0} (Z : Type 0) where
           need = (hg s).need;
           from = omega arith;
           fits = λ c l. wrote_next (up_to c) s (h.fits c (omega arith) ∙ e) ∙ (hg s).fits c l ∙ sym (wrote_next always s e);
-          short = λ c l q. ⊎_elim (λ t. wrote_next (up_to c) s (h.fits c t ∙ e) ∙ (hg s).short c (omega arith) q) (λ t. stuck_next (up_to c) 17 (h.short c l t)) (le_or_lt h.need c);
+          short = λ c l q. ⊎_elim (λ t. stuck_next (up_to c) 17 (h.short c l t)) (λ t. wrote_next (up_to c) s (h.fits c t ∙ e) ∙ (hg s).short c (omega arith) q) (cases_lt c h.need);
           counts = λ s' q. (hg s).counts s' (sym (wrote_next always s e) ∙ q);
           numbered = λ i q. (hg s).numbered i (sym (wrote_next always s e) ∙ q);
         }

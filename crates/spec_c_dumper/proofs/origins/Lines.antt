@@ -9,6 +9,7 @@ use native.Mathlib.Omega.{arith}
 use lib.ListN.{length, length-append, get_or}
 use lib.Dec.{ltb, leb, eqb}
 use borrow.Author.Tests.{eqb-true, eqb-false}
+use Rattle.std.proofs.lemmas.Bool.{or_right}
 use Rattle.spec_bytes.specs.text.Text.{ascii, Text, whole, cut, join, bytes}
 use Rattle.spec_c_dumper.specs.rules.Order.{Node, ignored, plain, listed, through, ptr, tdef, proto, comp, Table, is_comp, Mark, new, busy, Res, ok, refused}
 use Rattle.spec_c_dumper.specs.rules.Machine.{Out, wrote, stuck, Machine, eeach, emit, Sess, Answer, shut, single}
@@ -31,6 +32,7 @@ use Rattle.spec_c_dumper.proofs.origins.Numbered.{machine_numbered}
 use Rattle.spec_c_dumper.proofs.origins.Keeps.{Comes, comes, halts, comes_bind, comes_map, Kept, emit_top}
 use Rattle.spec_c_dumper.specs.needs.Bodies.{is_leaf}
 use Rattle.spec_c_dumper.proofs.origins.Back.{Back, emit_back, list_turns}
+use Rattle.spec_c_dumper.proofs.needs.Bodies.{text_in}
 
 -- nothing is in progress in emission
 abbrev pub Idle : {U : Type 0} → Ls U → Type 0
@@ -41,10 +43,6 @@ comes_both (comes p) (comes q) = comes (p, q)
 comes_both halts q = halts
 
 -- ---- texts
-
-abbrev text_in : {U : Type 0} → Said U → List ℕ
-text_in (said u (whole a)) = a
-text_in (said u (cut a c)) = a
 
 abbrev names_in : {U : Type 0} → Said U → U
 names_in (said u t) = u
@@ -173,10 +171,6 @@ body_line (ptr t) c e = absurd (true≢false (sym e))
 body_line (tdef t) c e = absurd (true≢false (sym e))
 body_line (proto ts) c e = absurd (true≢false (sym e))
 body_line (comp ts) c e = refl
-
-or_right : (a b : Bool) → b ≡ true → (a || b) ≡ true
-or_right true b e = refl
-or_right false b e = e
 
 -- ---- one more line
 module _ {U : Type 0} (N : Naming U) (B : Btf) where

@@ -13,7 +13,7 @@ unfolding bytes_of
 bytes_length [] = refl
 bytes_length (e ∷ es) = let h : length (bytes_of es) ≡ 12 * length es = bytes_length es in omega arith
 
-bytes_append : (es fs : List Entry) → bytes_of (es ++ fs) ≡ bytes_of es ++ bytes_of fs
+pub bytes_append : (es fs : List Entry) → bytes_of (es ++ fs) ≡ bytes_of es ++ bytes_of fs
 unfolding bytes_of
 bytes_append [] fs = refl
 bytes_append (e ∷ es) fs = ap (λ (x : List ℕ). word_bytes e.id ++ (word_bytes e.cause ++ (word_bytes e.leader ++ x))) (bytes_append es fs)

@@ -8,7 +8,7 @@ use mathlib.Core.Logic.{⊎_elim}
 use native.Mathlib.Omega.{arith}
 use lib.ListN.{length, length-append, replicate, length-replicate}
 use lib.Dec.{ltb}
-use Rattle.spec_bytes.proofs.words.Laws.{le_or_lt}
+use Rattle.std.proofs.lemmas.Bool.{cases_lt}
 use Rattle.spec_c_dumper.specs.rules.Order.{Table, Res, ok, refused}
 use Rattle.spec_c_dumper.specs.rules.Machine.{Out, wrote, stuck, Machine, eeach, emit, Sess, Answer, shut, emitted, ordered, gate, single, onward, from, every}
 use Rattle.spec_c_dumper.specs.origins.Causes.{Entry, Led, order_led, listed_entry, Noted, up_to, always, emit_noted, Explaining, untold, dropped, emitted_noted, each_listed, ordered_noted, gate_noted, single_noted, onward_noted, list_noted, from_noted, every_noted, bytes_of, filled, causes_of, entries_in, one_causes, list_causes, all_causes}
@@ -125,8 +125,8 @@ module _ {M : Type 0} (X : Machine M) (T : Table) (shows : ℕ → Bool) (nz : N
           held = subst (λ (u : Explaining M). length u.entries ≤ q.need) (sym (goes always t refl e)) q.held;
           fits = λ c l. goes (up_to c) t (h.fits c (omega arith)) e ∙ q.fits c l ∙ sym (goes always t refl e);
           short = λ c l s. ⊎_elim
-              (λ f. ap number_of (goes (up_to c) t (h.fits c f) e) ∙ q.short c (omega arith) s)
-              (λ f. ap number_of (stops (up_to c) 16 (h.short c l f)) ∙ h.short c l f) (le_or_lt h.need c);
+              (λ f. ap number_of (stops (up_to c) 16 (h.short c l f)) ∙ h.short c l f)
+              (λ f. ap number_of (goes (up_to c) t (h.fits c f) e) ∙ q.short c (omega arith) s) (cases_lt c h.need);
           counts = λ s. ap (λ (u : Explaining M). length u.entries) (goes always t refl e) ∙ q.counts (sym (ap number_of (goes always t refl e)) ∙ s);
         }
     by (suc m) e = record {

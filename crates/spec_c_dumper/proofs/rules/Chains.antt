@@ -51,7 +51,7 @@ module _ (B : Btf) (start : ℕ) where
   no_mods_to zero = refl
   no_mods_to (suc n) = no_mods_step n (entry_at B start n) refl (no_mods_to n)
 
-no_mods_length : (c : List Entry) → length (no_mods c) ≤ length c
+pub no_mods_length : (c : List Entry) → length (no_mods c) ≤ length c
 unfolding no_mods
 no_mods_length [] = zero-le
 no_mods_length (base x ∷ c) = omega arith

@@ -25,19 +25,19 @@ pub data Asks {A : Type 0} : Ask A → Type 0 where
   gets : (a : A) → Asks (got a)
   refuses : (c : ℕ) → Code c → Asks (no c)
 
-asks_then : {A C : Type 0} (x : Ask A) (k : A → Ask C) → Asks x → ((a : A) → Asks (k a)) → Asks (ask_then x k)
+pub asks_then : {A C : Type 0} (x : Ask A) (k : A → Ask C) → Asks x → ((a : A) → Asks (k a)) → Asks (ask_then x k)
 unfolding ask_then
 asks_then _ k (gets a) h = h a
 asks_then _ k (refuses c q) h = refuses c q
 
-asks_if : {A : Type 0} (b : Bool) (x y : Ask A) → Asks x → Asks y → Asks {A = A} (elim b [ true ↦ x | false ↦ y ])
+pub asks_if : {A : Type 0} (b : Bool) (x y : Ask A) → Asks x → Asks y → Asks {A = A} (elim b [ true ↦ x | false ↦ y ])
 asks_if true x y hx hy = hx
 asks_if false x y hx hy = hy
 
 deep : {A : Type 0} → Asks {A = A} (no 12)
 deep = refuses 12 (inl refl)
 
-asks_checked : (n : ℕ) → Asks (checked n)
+pub asks_checked : (n : ℕ) → Asks (checked n)
 unfolding checked
 asks_checked n = asks_if (ltb n 4294967296) _ _ (gets n) (refuses 16 (inr (inr (inl refl))))
 
@@ -128,7 +128,7 @@ module _ (B : Btf) where
       (asks_then (get_size_of 512 B m.type_id) _ (asks_size 512 m.type_id) (λ s. asks_then (checked (8 * s)) _ (asks_checked (8 * s)) (λ bits. asks_checked (m.bit_offset + bits))))
       (asks_checked (m.bit_offset + m.bit_size))
 
-  asks_extent : (is_struct packed : Bool) (x : Extent) (ms : List Member) → Asks (extent_of B is_struct packed x ms)
+  pub asks_extent : (is_struct packed : Bool) (x : Extent) (ms : List Member) → Asks (extent_of B is_struct packed x ms)
   unfolding extent_of field_size
   asks_extent is_struct packed x [] = gets _
   asks_extent is_struct packed x (m ∷ ms) =

@@ -3,18 +3,15 @@ use Prim.Native.Nat.{ℕ, zero, suc, ◌+◌, ◌*◌}
 use mathlib.Core.Path.{◌≡◌, refl, ap, ◌∙◌}
 use mathlib.Core.Bool.{Bool}
 use mathlib.Core.List.{List, [], ◌∷◌}
-use native.Mathlib.Omega.{arith}
 use native.Mathlib.Numerals.{unary_clauses}
 use Rattle.spec_c_dumper.specs.rules.Writer.{Ask, got, no, ask_then, checked, too_deep}
 use Rattle.spec_c_dumper.specs.rules.Types.{Name, Member, BtfType, Void, Int, Ptr, Array, Composite, Enum, Enum64, Fwd, Typedef, Mod, Func, Var, Datasec, FuncProto, Float, DeclTag, TypeTag, Btf}
 use Rattle.spec_c_dumper.specs.rules.Layout.{larger, size_of, get_size_of, align_members, align_of, get_align_of}
+use Rattle.spec_c_dumper.proofs.rules.Asking.{no_got}
 
 -- what f gets, g gets
 abbrev pub GetsMore : (ℕ → Ask ℕ) → (ℕ → Ask ℕ) → Type 0
 GetsMore f g = (id a : ℕ) → f id ≡ got a → g id ≡ got a
-
-no_got : {A : Type 0} (c : ℕ) (a : A) → no c ≡ got a → ⊥
-no_got c a e = let z : ◌≡◌ {A = ℕ} 0 1 = cc in omega arith
 
 -- the first of two that were got
 then_more : {A C : Type 0} (x y : Ask A) (k l : A → Ask C) (c : C) → ((a : A) → x ≡ got a → y ≡ got a) → ((a : A) → k a ≡ got c → l a ≡ got c)

@@ -139,12 +139,12 @@ pub record MachineMap {A C : Type 0} (X : Machine A) (Y : Machine C) (g : A → 
   pub bodies : (s : A) (x : ℕ) → Y.body (g s) x ≡ omap g (X.body s x)
 
 module _ {A C : Type 0} (X : Machine A) (Y : Machine C) (g : A → C) (mm : MachineMap X Y g) (T : Table) where
-  map_obind : (o : Out A) (k : A → Out A) (h : C → Out C) → ((s : A) → h (g s) ≡ omap g (k s)) → obind (omap g o) h ≡ omap g (obind o k)
+  pub map_obind : (o : Out A) (k : A → Out A) (h : C → Out C) → ((s : A) → h (g s) ≡ omap g (k s)) → obind (omap g o) h ≡ omap g (obind o k)
   unfolding obind
   map_obind (wrote s) k h e = e s
   map_obind (stuck c) k h e = refl
 
-  map_eeach : (h : C → ℕ → Out C) (k : A → ℕ → Out A) → ((s : A) (y : ℕ) → h (g s) y ≡ omap g (k s y)) → (ys : List ℕ) (s : A) → eeach h ys (g s) ≡ omap g (eeach k ys s)
+  pub map_eeach : (h : C → ℕ → Out C) (k : A → ℕ → Out A) → ((s : A) (y : ℕ) → h (g s) y ≡ omap g (k s y)) → (ys : List ℕ) (s : A) → eeach h ys (g s) ≡ omap g (eeach k ys s)
   unfolding eeach
   map_eeach h k e [] s = refl
   map_eeach h k e (y ∷ ys) s = ap (λ (o : Out C). obind o (eeach h ys)) (e s y) ∙ map_obind (k s y) (eeach k ys) (eeach h ys) (λ s'. map_eeach h k e ys s')
@@ -213,7 +213,7 @@ module _ {A C : Type 0} (X : Machine A) (Y : Machine C) (g : A → C) (mm : Mach
     map_allowed true = refl
     map_allowed false = map_begin (is_zero cont) (T.node x)
 
-    map_look : (d : Mark) → look Y T h (g s) x cont d ≡ omap g (look X T k s x cont d)
+    pub map_look : (d : Mark) → look Y T h (g s) x cont d ≡ omap g (look X T k s x cont d)
     unfolding look
     map_look new = map_allowed (is_zero cont && not (T.named x))
     map_look busy = map_again s x cont (T.node x)

@@ -4,53 +4,22 @@ use native.Mathlib.Nat.{div-eq_of_lt-le, div-add-mod', mul-mod_left, mul_left_co
 use mathlib.Core.Path.{◌≡◌, refl, ap, ap₂, ◌∙◌, sym, subst}
 use mathlib.Core.Bool.{Bool, true, false, not, ◌&&◌, true≢false}
 use mathlib.Core.Logic.{⊎_elim}
-use mathlib.Core.List.{List, [], ◌∷◌}
+use mathlib.Core.List.{List, [], ◌∷◌, nil≢cons}
 use native.Mathlib.Omega.{arith}
 use lib.Dec.{eqb, ltb, leb}
 use borrow.Author.Tests.{eqb-true, eqb-false, ltb-true, leb-true, eq-eqb, le-leb, lt-leb}
+use Rattle.std.proofs.lemmas.Bool.{cases_lt}
+use Rattle.std.specs.Cmp.{first_so, second_so}
 use Rattle.spec_c_dumper.specs.rules.Writer.{Ask, got, no, ask_then, checked, misplaced}
 use Rattle.spec_c_dumper.specs.rules.Types.{Member, Btf}
 use Rattle.spec_c_dumper.specs.rules.Layout.{larger, get_size_of, align_members, get_align_of, off_align, members_packed, is_struct_packed, PadUnit, long, int, short, char, Pad, pads_of, gap_pads, suits, placed_pad, placed_pads, placed_gap, pads_before, bit_padding, end_of}
 use Rattle.spec_c_dumper.specs.rules.Placing.{round_up, same_unit, field_size, field_fits, start_fits, member_fits, Extent, reached, with_member, extent_of, no_extent, union_align, size_fits, measured, body_packed, tail_pads}
 use Rattle.spec_c_dumper.specs.rules.SystemV.{Line, pad, field, pad_lines, body_lines, unit_bits, bit_field_at, line_at, line_bits, struct_places, struct_end, union_places, union_end, whole_bits, raises, lines_align, all_raise, found_or_zero, table_size, table_align, body_align, bit_offsets, as_union, places_of, bits_of, LaidOut}
-use Rattle.spec_bytes.proofs.words.Laws.{le_or_lt}
 use Rattle.spec_c_dumper.proofs.rules.Deeper.{align_one_more}
+use Rattle.spec_c_dumper.proofs.rules.Asking.{no_got, then_got, then_is, choose, checked_got}
+use Rattle.spec_c_dumper.proofs.alignment_once.Right.{first_below}
 
 -- ---- tests and answers
-
-no_got : {A : Type 0} (c : ℕ) (a : A) → no c ≡ got a → ⊥
-no_got c a e = let z : ◌≡◌ {A = ℕ} 0 1 = cc in omega arith
-
-record Then {A C : Type 0} (x : Ask A) (k : A → Ask C) (c : C) : Type 0 where
-  value : A
-  first : x ≡ got value
-  rest : k value ≡ got c
-
-then_got : {A C : Type 0} (x : Ask A) (k : A → Ask C) (c : C) → ask_then x k ≡ got c → Then x k c
-unfolding ask_then
-then_got (got a) k c e = record { value = a; first = refl; rest = e }
-then_got (no r) k c e = absurd (no_got r c e)
-
-then_is : {A C : Type 0} (x : Ask A) (k : A → Ask C) (a : A) → x ≡ got a → ask_then x k ≡ k a
-unfolding ask_then
-then_is x k a e = ap (λ y. ask_then y k) e
-
-and_left : (a b : Bool) → (a && b) ≡ true → a ≡ true
-and_left true b e = refl
-and_left false b e = absurd (true≢false (sym e))
-
-and_right : (a b : Bool) → (a && b) ≡ true → b ≡ true
-and_right true b e = e
-and_right false b e = absurd (true≢false (sym e))
-
--- by a test, whatever it says
-choose : {A : Type 0} (F : A → Type 0) (b : Bool) (x y : A) → (b ≡ true → F x) → (b ≡ false → F y) → F (elim b [ true ↦ x | false ↦ y ])
-choose F true x y p q = p refl
-choose F false x y p q = q refl
-
-checked_got : (n r : ℕ) → checked n ≡ got r → n ≡ r
-unfolding checked
-checked_got n r = choose (λ (z : Ask ℕ). z ≡ got r → n ≡ r) (ltb n 4294967296) _ _ (λ t e. cc) (λ t e. absurd (no_got _ _ e))
 
 -- ---- rounding up
 
@@ -92,14 +61,14 @@ module _ (size align : ℕ → ℕ) (packed : Bool) where
   unfolding suits
   suit u w start gap e p f = record {
     some = p;
-    within = leb-true w gap (and_right (eqb (start % w) 0) (leb w gap) e);
-    stays = stay u w start (f (eqb-true (start % w) 0 (and_left (eqb (start % w) 0) (leb w gap) e)));
+    within = leb-true w gap (second_so (eqb (start % w) 0) (leb w gap) e);
+    stays = stay u w start (f (eqb-true (start % w) 0 (first_so (eqb (start % w) 0) (leb w gap) e)));
   }
 
   pub pad_stays : (ptr_sz start gap : ℕ) → 0 < gap → Stays start gap (placed_pad ptr_sz start gap)
   unfolding placed_pad unit_bits
   pad_stays ptr_sz start gap g =
-      choose (Stays start gap) (eqb ptr_sz 8 && suits start gap 64) _ _ (λ e. suit long 64 start gap (and_right (eqb ptr_sz 8) (suits start gap 64) e) (omega arith) (λ z. omega arith))
+      choose (Stays start gap) (eqb ptr_sz 8 && suits start gap 64) _ _ (λ e. suit long 64 start gap (second_so (eqb ptr_sz 8) (suits start gap 64) e) (omega arith) (λ z. omega arith))
       (λ _. choose (Stays start gap) (suits start gap 32) _ _ (λ e. suit int 32 start gap e (omega arith) (λ z. omega arith))
       (λ _. choose (Stays start gap) (suits start gap 16) _ _ (λ e. suit short 16 start gap e (omega arith) (λ z. omega arith))
       (λ _. choose (Stays start gap) (suits start gap 8) _ _ (λ e. suit char 8 start gap e (omega arith) (λ z. omega arith))
@@ -172,7 +141,7 @@ module _ (B : Btf) (packed : Bool) where
   own : (m : Member) (n last s : ℕ) (f : Eff m) → field_size B m ≡ got s → member_fits true packed last s m.bit_offset m.bit_size ≡ true → n ≤ m.bit_offset
       → (m.bit_size ≡ 0 → m.bit_offset < n + f.a * 8) → ((m.bit_size ≡ 0 → ⊥) → n ≡ m.bit_offset) → at n (field m) ≡ m.bit_offset
   unfolding line_at member_fits field_fits field_size table_size found_or_zero
-  own m n last s f es em l near same = go (eqb m.bit_size 0) refl es (and_right (start_fits true last m.bit_offset) (elim (eqb m.bit_size 0) as (λ _. Bool) [ true ↦ eqb (m.bit_offset % 8) 0 | false ↦ leb m.bit_size (8 * s) && (elim packed as (λ _. Bool) [ true ↦ true | false ↦ same_unit (8 * s) m.bit_offset m.bit_size ]) ]) em)
+  own m n last s f es em l near same = go (eqb m.bit_size 0) refl es (second_so (start_fits true last m.bit_offset) (elim (eqb m.bit_size 0) as (λ _. Bool) [ true ↦ eqb (m.bit_offset % 8) 0 | false ↦ leb m.bit_size (8 * s) && (elim packed as (λ _. Bool) [ true ↦ true | false ↦ same_unit (8 * s) m.bit_offset m.bit_size ]) ]) em)
     where
       go : (b : Bool) → eqb m.bit_size 0 ≡ b → (elim b as (λ _. Ask ℕ) [ true ↦ got 0 | false ↦ get_size_of 512 B m.type_id ]) ≡ got s
           → (elim b as (λ _. Bool) [ true ↦ eqb (m.bit_offset % 8) 0 | false ↦ leb m.bit_size (8 * s) && (elim packed as (λ _. Bool) [ true ↦ true | false ↦ same_unit (8 * s) m.bit_offset m.bit_size ]) ]) ≡ true
@@ -187,7 +156,7 @@ module _ (B : Btf) (packed : Bool) where
           ap (λ (x : ℕ). round_up n (x * 8)) f.is ∙ round_to n m.bit_offset (f.a * 8) (omega arith) o.1 l h
       go false z gs fs =
           ap (λ (x : ℕ). elim packed as (λ _. ℕ) [ true ↦ n | false ↦ bit_field_at (8 * x) m.bit_size n ]) (ap found_or_zero gs)
-          ∙ own_field packed (8 * s) m.bit_size n m.bit_offset (and_right (leb m.bit_size (8 * s)) (elim packed as (λ _. Bool) [ true ↦ true | false ↦ same_unit (8 * s) m.bit_offset m.bit_size ]) fs) (same (eqb-false m.bit_size 0 z))
+          ∙ own_field packed (8 * s) m.bit_size n m.bit_offset (second_so (leb m.bit_size (8 * s)) (elim packed as (λ _. Bool) [ true ↦ true | false ↦ same_unit (8 * s) m.bit_offset m.bit_size ]) fs) (same (eqb-false m.bit_size 0 z))
 
   -- ---- the lines of a struct from a member on
 
@@ -230,7 +199,7 @@ module _ (B : Btf) (packed : Bool) where
   module _ (placing : B.placing ≡ true) (m : Member) (last s next : ℕ) (f : Eff m) (es : field_size B m ≡ got s) (em : member_fits true packed last s m.bit_offset m.bit_size ≡ true) (ee : end_of B m ≡ got next) where
     starts : last ≤ m.bit_offset
     unfolding member_fits start_fits
-    starts = leb-true last m.bit_offset (and_left (leb last m.bit_offset) (elim (eqb m.bit_size 0) as (λ _. Bool) [ true ↦ eqb (m.bit_offset % 8) 0 | false ↦ field_fits packed s m.bit_offset m.bit_size ]) em)
+    starts = leb-true last m.bit_offset (first_so (leb last m.bit_offset) (elim (eqb m.bit_size 0) as (λ _. Bool) [ true ↦ eqb (m.bit_offset % 8) 0 | false ↦ field_fits packed s m.bit_offset m.bit_size ]) em)
 
     -- without pads: there is no gap, or one shorter than the alignment
     bare : bit_padding B last m packed ≡ got [] → (m.bit_size ≡ 0 → m.bit_offset < last + f.a * 8) → ((m.bit_size ≡ 0 → ⊥) → last ≡ m.bit_offset) → Run last m next
@@ -273,15 +242,15 @@ module _ (B : Btf) (packed : Bool) where
     run : Run last m next
     unfolding placed_gap
     run = ⊎_elim
-        (λ l. bare (no_gap l) (λ z. let p : 0 < f.a = (f.on z).0 in let q = starts in omega arith) (λ z. let q = starts in omega arith))
         (λ l. go l (eqb m.bit_size 0 && ltb (m.bit_offset - last) (f.a * 8)) refl (a_gap l ∙ ap got gap_is))
-        (le_or_lt m.bit_offset last)
+        (λ l. bare (no_gap l) (λ z. let p : 0 < f.a = (f.on z).0 in let q = starts in omega arith) (λ z. let q = starts in omega arith))
+        (cases_lt last m.bit_offset)
       where
         go : last < m.bit_offset → (b : Bool) → (eqb m.bit_size 0 && ltb (m.bit_offset - last) (f.a * 8)) ≡ b
             → bit_padding B last m packed ≡ got (elim b as (λ _. List Pad) [ true ↦ [] | false ↦ placed_pads (m.bit_offset - last) B.ptr_sz last (m.bit_offset - last) ]) → Run last m next
         go l true t e =
-            let z : m.bit_size ≡ 0 = eqb-true m.bit_size 0 (and_left (eqb m.bit_size 0) (ltb (m.bit_offset - last) (f.a * 8)) t) in
-            let h : m.bit_offset - last < f.a * 8 = ltb-true (m.bit_offset - last) (f.a * 8) (and_right (eqb m.bit_size 0) (ltb (m.bit_offset - last) (f.a * 8)) t) in
+            let z : m.bit_size ≡ 0 = eqb-true m.bit_size 0 (first_so (eqb m.bit_size 0) (ltb (m.bit_offset - last) (f.a * 8)) t) in
+            let h : m.bit_offset - last < f.a * 8 = ltb-true (m.bit_offset - last) (f.a * 8) (second_so (eqb m.bit_size 0) (ltb (m.bit_offset - last) (f.a * 8)) t) in
             bare e (λ y. omega arith) (λ n. absurd (n z))
         go l false t e = filled (omega arith) e
 
@@ -294,7 +263,7 @@ fits_before B is_struct packed y [] x e h = let q : y ≡ x = cc in ap (λ (z : 
 fits_before B is_struct packed y (m ∷ ms) x e h =
     let p = then_got _ _ _ e in
     let q = then_got _ _ _ p.rest in
-    and_left y.fits (member_fits is_struct packed y.last p.value m.bit_offset m.bit_size)
+    first_so y.fits (member_fits is_struct packed y.last p.value m.bit_offset m.bit_size)
     (fits_before B is_struct packed (with_member is_struct packed y p.value q.value m.bit_offset m.bit_size) ms x q.rest h)
 
 -- so the next member fits
@@ -302,7 +271,7 @@ fits_now : (B : Btf) (is_struct packed : Bool) (y : Extent) (m : Member) (ms : L
     → extent_of B is_struct packed (with_member is_struct packed y s end m.bit_offset m.bit_size) ms ≡ got x → x.fits ≡ true → member_fits is_struct packed y.last s m.bit_offset m.bit_size ≡ true
 unfolding with_member
 fits_now B is_struct packed y m ms s end x e h =
-    and_right y.fits (member_fits is_struct packed y.last s m.bit_offset m.bit_size) (fits_before B is_struct packed (with_member is_struct packed y s end m.bit_offset m.bit_size) ms x e h)
+    second_so y.fits (member_fits is_struct packed y.last s m.bit_offset m.bit_size) (fits_before B is_struct packed (with_member is_struct packed y s end m.bit_offset m.bit_size) ms x e h)
 
 -- the members of a struct that is not packed: each has an alignment, and a plain one is on it
 data Aligned (B : Btf) : List Member → Type 0 where
@@ -367,7 +336,7 @@ module _ (B : Btf) (placing : B.placing ≡ true) where
     on = λ z. (
       omega arith,
       choose (λ (y : Bool). y ≡ true → m.bit_offset % 8 ≡ 0) (eqb m.bit_size 0) _ _ (λ t f. eqb-true (m.bit_offset % 8) 0 f) (λ t f. absurd (eqb-false m.bit_size 0 t z))
-          (and_right (start_fits true last m.bit_offset) (elim (eqb m.bit_size 0) as (λ _. Bool) [ true ↦ eqb (m.bit_offset % 8) 0 | false ↦ field_fits true s m.bit_offset m.bit_size ]) em),
+          (second_so (start_fits true last m.bit_offset) (elim (eqb m.bit_size 0) as (λ _. Bool) [ true ↦ eqb (m.bit_offset % 8) 0 | false ↦ field_fits true s m.bit_offset m.bit_size ]) em),
     );
   }
   eff false last s m ms h em = go (h refl)
@@ -414,17 +383,13 @@ module _ (B : Btf) (placing : B.placing ≡ true) where
 
 -- ---- a whole
 
-larger_not_below : (x b : ℕ) → x ≤ larger x b
-unfolding larger
-larger_not_below x b = choose (λ (y : ℕ). x ≤ y) (leb x b) b x (λ t. leb-true x b t) (λ t. omega arith)
-
 align_some : (f : ℕ → Ask ℕ) (x : ℕ) (ms : List Member) (A : ℕ) → align_members f x ms ≡ got A → x ≤ A
 unfolding align_members
 align_some f x [] A e = let q : x ≡ A = cc in omega arith
 align_some f x (m ∷ ms) A e =
     let p = then_got _ _ _ e in
     let h : larger x p.value ≤ A = align_some f (larger x p.value) ms A p.rest in
-    omega (arith, larger_not_below x p.value)
+    omega (arith, first_below x p.value)
 
 whole_multiple : (sz A : ℕ) → 0 < A → sz % A ≡ 0 → round_up (8 * sz) (8 * A) ≡ 8 * sz
 whole_multiple sz A p z =
@@ -457,8 +422,8 @@ measured_got B is_struct sz ms packed e =
       aligned_by = p.first;
       packs = q.first ∙ ap got t.1;
       extends = ap (λ (b : Bool). extent_of B is_struct b no_extent ms) (sym t.1) ∙ r.first;
-      fit = and_left r.value.fits (size_fits is_struct p.value r.value.last s.value) t.0;
-      sized = ap (size_fits is_struct p.value r.value.last) (checked_got _ _ s.first) ∙ and_right r.value.fits (size_fits is_struct p.value r.value.last s.value) t.0;
+      fit = first_so r.value.fits (size_fits is_struct p.value r.value.last s.value) t.0;
+      sized = ap (size_fits is_struct p.value r.value.last) (checked_got _ _ s.first) ∙ second_so r.value.fits (size_fits is_struct p.value r.value.last s.value) t.0;
     }
   where
     test : (b was : Bool) → (elim b as (λ _. Ask Bool) [ true ↦ got was | false ↦ no misplaced ]) ≡ got packed → (b ≡ true) × (was ≡ packed)
@@ -499,7 +464,7 @@ module _ (B : Btf) (placing : B.placing ≡ true) (sz : ℕ) (ms : List Member) 
 
   at_zero : (last s : ℕ) (m : Member) → member_fits false false last s m.bit_offset m.bit_size ≡ true → m.bit_offset ≡ 0
   unfolding member_fits start_fits
-  at_zero last s m e = eqb-true m.bit_offset 0 (and_left (eqb m.bit_offset 0) (elim (eqb m.bit_size 0) as (λ _. Bool) [ true ↦ eqb (m.bit_offset % 8) 0 | false ↦ field_fits false s m.bit_offset m.bit_size ]) e)
+  at_zero last s m e = eqb-true m.bit_offset 0 (first_so (eqb m.bit_offset 0) (elim (eqb m.bit_size 0) as (λ _. Bool) [ true ↦ eqb (m.bit_offset % 8) 0 | false ↦ field_fits false s m.bit_offset m.bit_size ]) e)
 
   no_pad : (offset : ℕ) (m : Member) → m.bit_offset ≡ 0 → bit_padding B offset m false ≡ got []
   unfolding bit_padding
@@ -586,9 +551,9 @@ module _ (B : Btf) (tail : ℕ → List Pad) (packed : Bool) where
       let y : table_align B m.type_id ≡ g.value = ap found_or_zero (align_one_more B 511 m.type_id g.value g.first) in
       ap (lines_align (table_align B) x) (sym w)
       ∙ pads_raise_none (table_align B) x p.value (field m ∷ r.value)
-      ∙ ap (λ (b : Bool). lines_align (table_align B) (elim b as (λ _. ℕ) [ true ↦ larger x (table_align B m.type_id) | false ↦ x ]) r.value) (and_left (raises m) (all_raise ms) h)
+      ∙ ap (λ (b : Bool). lines_align (table_align B) (elim b as (λ _. ℕ) [ true ↦ larger x (table_align B m.type_id) | false ↦ x ]) r.value) (first_so (raises m) (all_raise ms) h)
       ∙ ap (λ (z : ℕ). lines_align (table_align B) (larger x z) r.value) y
-      ∙ lines_align_lem q.value ms (larger x g.value) r.value A r.first g.rest (and_right (raises m) (all_raise ms) h)
+      ∙ lines_align_lem q.value ms (larger x g.value) r.value A r.first g.rest (second_so (raises m) (all_raise ms) h)
 
 -- so the whole has its table size by the alignment of its lines too
 module _ (B : Btf) (is_struct : Bool) (sz : ℕ) (ms : List Member) (A : ℕ) (e : align_members (get_align_of 511 B) 1 ms ≡ got A) (named : all_raise ms ≡ true) where
@@ -597,9 +562,6 @@ module _ (B : Btf) (is_struct : Bool) (sz : ℕ) (ms : List Member) (A : ℕ) (e
   own_alignment l = lines_align_lem B (tail_pads B.placing B.ptr_sz is_struct sz) false 0 ms 1 l.lines A l.printed e named ∙ sym (ap found_or_zero e)
 
 -- ---- which gaps are padded
-
-some_list : {A : Type 0} (x : A) (xs : List A) → x ∷ xs ≡ [] → ⊥
-some_list x xs e = let z : ◌≡◌ {A = ℕ} 0 1 = cc in omega arith
 
 no_placed : (most ptr_sz start gap : ℕ) → gap ≡ 0 → placed_pads most ptr_sz start gap ≡ []
 unfolding placed_pads
@@ -614,12 +576,12 @@ no_old (suc most) ptr_sz gap z = rw (z, pads_of)
 placed_none : (most ptr_sz start gap : ℕ) → gap ≤ most → placed_pads most ptr_sz start gap ≡ [] → gap ≡ 0
 unfolding placed_pads
 placed_none zero ptr_sz start gap h = λ e. omega arith
-placed_none (suc most) ptr_sz start gap h = choose (λ (ps : List Pad). ps ≡ [] → gap ≡ 0) (eqb gap 0) _ _ (λ t e. eqb-true gap 0 t) (λ t e. absurd (some_list _ _ e))
+placed_none (suc most) ptr_sz start gap h = choose (λ (ps : List Pad). ps ≡ [] → gap ≡ 0) (eqb gap 0) _ _ (λ t e. eqb-true gap 0 t) (λ t e. absurd (nil≢cons (sym e)))
 
 old_none : (most ptr_sz gap : ℕ) → gap ≤ most → pads_of most ptr_sz gap ≡ [] → gap ≡ 0
 unfolding pads_of
 old_none zero ptr_sz gap h = λ e. omega arith
-old_none (suc most) ptr_sz gap h = choose (λ (ps : List Pad). ps ≡ [] → gap ≡ 0) (eqb gap 0) _ _ (λ t e. eqb-true gap 0 t) (λ t e. absurd (some_list _ _ e))
+old_none (suc most) ptr_sz gap h = choose (λ (ps : List Pad). ps ≡ [] → gap ≡ 0) (eqb gap 0) _ _ (λ t e. eqb-true gap 0 t) (λ t e. absurd (nil≢cons (sym e)))
 
 abbrev Bare : List Pad → Type 0
 Bare ps = ps ≡ []

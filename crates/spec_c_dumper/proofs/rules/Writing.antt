@@ -2,7 +2,7 @@
 use Prim.Native.Nat.{ℕ}
 use mathlib.Core.Path.{◌≡◌, refl, ap, ap₂, ◌∙◌, sym}
 use mathlib.Core.List.{List, []}
-use mathlib.Core.Bool.{true, false}
+use mathlib.Core.Bool.{true, false, false≢true}
 use native.Mathlib.Omega.{arith}
 use Rattle.std.specs.Prelude.{Ok, Err, IsErrAnd}
 use Rattle.spec_bytes.specs.declared.refusal.Refusal.{Refusal}
@@ -12,9 +12,6 @@ use Rattle.spec_bytes.proofs.text.TextLaws.{stays, join_on, put_empty, cut_stops
 use Rattle.spec_c_dumper.specs.rules.Writer.{Ask, got, no, Said, said, said_names, Writer, after, next, put, stop, given, ◌⨾◌}
 use Rattle.spec_c_dumper.specs.rules.Place.{wrote, refused, with_names, out_of, put_said}
 use Rattle.spec_c_dumper.specs.rules.Names.{Resolved, resolving}
-
-false_true : false ≡ true → ⊥
-false_true q = let k : ◌≡◌ {A = ℕ} 0 1 = cc in omega arith
 
 module _ {U : Type 0} where
   wrote_refused : (t : List ℕ) (n : ℕ) (u : U) (c : ℕ) → wrote t n u ≡ refused c → ⊥
@@ -77,7 +74,7 @@ module _ {U : Type 0} where
   next_goes : (t : List ℕ) (at : Placed) (u : U) (x : Text) (w : Writer U) (n : Placed) (t' : List ℕ) (t₁ : List ℕ) (k : ℕ)
       → put_out n t' ≡ put_text t at x → put_text t at x ≡ done t₁ k → put_said t' n (w u) ≡ put_said t at (next (said u x) w)
   unfolding put_said next after is_stopped
-  next_goes t at u (cut a c) w n t' t₁ k e q = absurd (false_true (sym (ap is_stopped q) ∙ cut_stops t at a c))
+  next_goes t at u (cut a c) w n t' t₁ k e q = absurd (false≢true (sym (ap is_stopped q) ∙ cut_stops t at a c))
   next_goes t at u (whole a) w n t' t₁ k e q = go (w u)
     where
       go : (s : Said U) → put_said t' n s ≡ put_said t at (after a s)

@@ -7,11 +7,13 @@ use mathlib.Core.List.{List, [], ◌∷◌, ◌++◌, Memᴰ}
 use lib.ListN.{length, get_or, length-append}
 use lib.Dec.{leb}
 use borrow.Author.Tests.{leb-true, le-ltb}
+use Rattle.std.proofs.lemmas.Bool.{false_from_ne_true}
 use Rattle.spec_linux_btf.specs.Documentation.{Described, Every, Fits, encode_all, header, btf_header, btf_version, size_of, encode_header, encode_section}
 use Rattle.spec_linux_btf.specs.Reading.{Bytes}
 use Rattle.spec_linux_btf.specs.Section.{is_big_endian, str_len_of, string_area, header_sound, strings_sound, types_sound, all_ascii, ReadAs}
 use Rattle.spec_linux_btf.proofs.Claims.{section_fields}
 use Rattle.spec_linux_btf.proofs.Written.{section_bytes}
+use Rattle.spec_linux_btf.proofs.Area.{allowed_fits}
 use Rattle.btf_open_causes.specs.references.References.{BadReference}
 use Rattle.btf_open_causes.proofs.references.BadIds.{bad_reference}
 use Rattle.btf_open_causes.specs.prototypes.Prototypes.{ProtoInside}
@@ -54,10 +56,6 @@ unfolding encode_section
 areas_inside big flags ts strings =
     behind (encode_header big (header btf_version flags (size_of btf_header) 0 (length (encode_all big ts)) (length (encode_all big ts)) (length strings))) (encode_all big ts) strings
 
-untrue : (b : Bool) → (b ≡ true → ⊥) → b ≡ false
-untrue true h = absurd (h refl)
-untrue false h = refl
-
 -- A section that opening accepted, and its new section, which is not over 16,777,216 bytes: else the call for it gives 23.
 module _ (p : ℕ) (s : List ℕ) (n : ℕ) (ok : opening_number p s n ≡ 0) (y : Bytes s) (given : List ℕ) (m : ℕ → Bool) (tells : Tells (types_of s) given m)
     (short : length (cut_section m s) ≤ 16777216) where
@@ -71,7 +69,7 @@ module _ (p : ℕ) (s : List ℕ) (n : ℕ) (ok : opening_number p s n ≡ 0) (y
   read = section_fields s y (header_ok p 0 s n ok) (types_ok p 0 s n ok)
 
   fit : Every Fits (types_of s)
-  fit = written.just_fits (str_len_of s) (types_of s) read.allowed
+  fit = allowed_fits (str_len_of s) (types_of s) read.allowed
 
   lengths : length (encode_all (is_big_endian s) (new_types m s)) + length (new_strings m s) ≤ length s'
   unfolding cut_section
@@ -129,15 +127,15 @@ module _ (p : ℕ) (s : List ℕ) (n : ℕ) (ok : opening_number p s n ≡ 0) (y
 
   new_6 : cause6 p s' ≡ false
   unfolding cause6
-  new_6 = untrue _ (λ e. no_bad m (new_offset m s) (types_of s) (table_of p s) (table_of p s') s s' (index_of s) (index_of s') old_seen new_seen closed old_6 ((bad_reference (table_of p s') s' (index_of s')).0 e))
+  new_6 = false_from_ne_true _ (λ e. no_bad m (new_offset m s) (types_of s) (table_of p s) (table_of p s') s s' (index_of s) (index_of s') old_seen new_seen closed old_6 ((bad_reference (table_of p s') s' (index_of s')).0 e))
 
   new_7 : cause7 p s' ≡ false
   unfolding cause7
-  new_7 = untrue _ (λ e. no_proto m (new_offset m s) (types_of s) (table_of p s) (table_of p s') s s' (index_of s) (index_of s') old_seen new_seen closed old_7 ((any_leads_lem (table_of p s') s' (index_of s')).0 e))
+  new_7 = false_from_ne_true _ (λ e. no_proto m (new_offset m s) (types_of s) (table_of p s) (table_of p s') s s' (index_of s) (index_of s') old_seen new_seen closed old_7 ((any_leads_lem (table_of p s') s' (index_of s')).0 e))
 
   new_8 : cause8 p s' ≡ false
   unfolding cause8
-  new_8 = untrue _ (λ e. no_loop m (new_offset m s) (types_of s) (table_of p s) (table_of p s') s s' (index_of s) (index_of s') old_seen new_seen closed old_8 ((type_loop (table_of p s') s' (index_of s')).0 e))
+  new_8 = false_from_ne_true _ (λ e. no_loop m (new_offset m s) (types_of s) (table_of p s) (table_of p s') s s' (index_of s) (index_of s') old_seen new_seen closed old_8 ((type_loop (table_of p s') s' (index_of s')).0 e))
 
   new_2 : cause2 s' ≡ false
   unfolding cause2

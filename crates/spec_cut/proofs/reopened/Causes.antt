@@ -3,12 +3,13 @@ use Prim.Native.Nat.{ℕ, zero, suc, ◌+◌, ◌<◌, ◌≤◌}
 use native.Mathlib.Omega.{arith}
 use mathlib.Core.Path.{◌≡◌, refl, sym, ◌∙◌, ap, subst}
 use mathlib.Core.Bool.{Bool, true, false, true≢false}
+use mathlib.Core.List.Memᴰ
 use mathlib.Core.List.{List, [], ◌∷◌, Memᴰ}
 use mathlib.Core.Logic.{◌⊎◌, inl, inr}
 use lib.ListN.{length, get_or}
 use lib.Dec.{eqb}
+use Rattle.std.proofs.lemmas.Bool.{cases_lt}
 use Rattle.spec_bytes.specs.words.Words.{pick}
-use Rattle.spec_bytes.proofs.words.Laws.{le_or_lt}
 use Rattle.spec_linux_btf.specs.Documentation.{Described}
 use Rattle.spec_linux_btf.specs.Fields.{kind_in}
 use Rattle.spec_type_table.specs.declared.types.TypeTable.{TypeTable}
@@ -24,31 +25,31 @@ use Rattle.spec_cut.specs.section.Renumbered.{kept_to, new_id, kept_types}
 use Rattle.spec_cut.proofs.section.Numbers.{Stays, is_void, is_kept_lem, new_zero, new_kept, new_one, kept_length, new_below, renamed_length}
 use Rattle.spec_cut.proofs.section.Claims.{GoodReferences}
 use Rattle.spec_cut.specs.reopened.Seen.{SeenFrom}
-use Rattle.spec_cut.proofs.reopened.Renamed.{nts, kind_same, tag_kind, map_from, old_to, old_has, type_new, followed_new}
+use Rattle.spec_cut.proofs.reopened.Renamed.{nts, kind_same, tag_kind, old_to, old_has, type_new, followed_new}
 
 -- no cause 6 is what the theorem on sections cut down asks of references
 module _ (c : TypeTable) (s start : List ℕ) (ts : List Described) (old : SeenFrom c s start ts) (good : BadReference c s start → ⊥) where
   below : (x y : ℕ) → Memᴰ y (followed_ids (type_of ts x)) → y < type_count c
-  below x y h = go (le_or_lt (type_count c) y)
+  below x y h = go (cases_lt y (type_count c))
     where
       r : (k : ℕ) × (k < followed_count c s start x) × (followed_id c s start x k ≡ y)
       r = old.from x y h
 
-      inside : (type_count c ≤ x) ⊎ (x < type_count c) → x < type_count c
-      inside (inl q) = absurd (omega (arith, r.1, followed_none c s start x q))
-      inside (inr q) = q
+      inside : (x < type_count c) ⊎ (type_count c ≤ x) → x < type_count c
+      inside (inl q) = q
+      inside (inr q) = absurd (omega (arith, r.1, followed_none c s start x q))
 
-      go : (type_count c ≤ y) ⊎ (y < type_count c) → y < type_count c
-      go (inl q) = absurd (good (record { x = x; k = r.0; type = inside (le_or_lt (type_count c) x); followed = r.1; bad = inl (subst (λ (z : ℕ). type_count c ≤ z) (sym r.2) q) }))
-      go (inr q) = q
+      go : (y < type_count c) ⊎ (type_count c ≤ y) → y < type_count c
+      go (inl q) = q
+      go (inr q) = absurd (good (record { x = x; k = r.0; type = inside (cases_lt x (type_count c)); followed = r.1; bad = inl (subst (λ (z : ℕ). type_count c ≤ z) (sym r.2) q) }))
 
   -- a type that follows an id is in the table
   pub follows_inside : (x k : ℕ) → k < followed_count c s start x → x < type_count c
-  follows_inside x k h = go (le_or_lt (type_count c) x)
+  follows_inside x k h = go (cases_lt x (type_count c))
     where
-      go : (type_count c ≤ x) ⊎ (x < type_count c) → x < type_count c
-      go (inl q) = absurd (omega (arith, h, followed_none c s start x q))
-      go (inr q) = q
+      go : (x < type_count c) ⊎ (type_count c ≤ x) → x < type_count c
+      go (inl q) = q
+      go (inr q) = absurd (omega (arith, h, followed_none c s start x q))
 
   not_refused : (x y : ℕ) → Memᴰ y (followed_ids (type_of ts x)) → is_kind_among refused (kind_at c start y) ≡ true → ⊥
   not_refused x y h e =
@@ -117,8 +118,7 @@ module _ (m : ℕ → Bool) (o : ℕ → ℕ) (ts : List Described) (c c' : Type
       let q = old_is x l in
       let ids : Memᴰ (followed_id c' s' start' x k) (followed_ids (type_of (nts m o ts) (new_id m (old_of x)))) =
       subst (λ (z : ℕ). Memᴰ (followed_id c' s' start' x k) (followed_ids (type_of (nts m o ts) z))) (sym q.2) (new.to x k h) in
-      let r = map_from (new_id m) (followed_ids (type_of ts (old_of x))) (followed_id c' s' start' x k)
-      (subst (λ (l : List ℕ). Memᴰ (followed_id c' s' start' x k) l) (followed_new m o ts (old_of x) q.0 q.1) ids) in
+      let r = Memᴰ.of_map (new_id m) (followed_ids (type_of ts (old_of x))) (subst (λ (l : List ℕ). Memᴰ (followed_id c' s' start' x k) l) (followed_new m o ts (old_of x) q.0 q.1) ids) in
       let f = old.from (old_of x) r.0 r.1 in
       let z = closed (old_of x) q.0 q.1 r.0 r.1 in
       record { j = f.0; y = r.0; followed = f.1; it = f.2; stays = z.0; inside = z.1; number = r.2 }
@@ -190,11 +190,11 @@ module _ (m : ℕ → Bool) (o : ℕ → ℕ) (ts : List Described) (c c' : Type
   -- no cause 8
   passing_inside : (x : ℕ) → is_kind_among passing (kind_at c' start' x) ≡ true → x < type_count c'
   unfolding is_kind_among
-  passing_inside x e = go (le_or_lt (type_count c') x)
+  passing_inside x e = go (cases_lt x (type_count c'))
     where
-      go : (type_count c' ≤ x) ⊎ (x < type_count c') → x < type_count c'
-      go (inl q) = absurd (true≢false (sym e ∙ ap (is_kind_among passing) (kind_out c' start' x q)))
-      go (inr q) = q
+      go : (x < type_count c') ⊎ (type_count c' ≤ x) → x < type_count c'
+      go (inl q) = q
+      go (inr q) = absurd (true≢false (sym e ∙ ap (is_kind_among passing) (kind_out c' start' x q)))
 
   pub no_loop : (TypeLoop c s start → ⊥) → TypeLoop c' s' start' → ⊥
   no_loop none r = none (record {

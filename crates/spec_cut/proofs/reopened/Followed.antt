@@ -2,13 +2,14 @@
 use Prim.Native.Nat.{ℕ, zero, suc, ◌+◌, ◌-◌, ◌*◌, ◌/◌, ◌%◌, ◌<◌, ◌≤◌}
 use native.Mathlib.Omega.{arith}
 use mathlib.Core.Path.{◌≡◌, refl, sym, ◌∙◌, ap, ap₂, subst}
-use mathlib.Core.Bool.{Bool, true, false, ◌&&◌, true≢false}
+use mathlib.Core.Bool.{true, false, true≢false}
 use mathlib.Core.List.Memᴰ
-use mathlib.Core.List.{List, [], ◌∷◌, Memᴰ}
+use mathlib.Core.List.{List, ◌∷◌, Memᴰ}
 use mathlib.Core.Logic.{◌⊎◌, inl, inr}
 use lib.ListN.{length, get_or}
 use lib.Dec.{leb}
-use Rattle.spec_bytes.proofs.words.Laws.{le_or_lt}
+use Rattle.std.proofs.lemmas.Bool.{and_parts, cases_lt}
+use Rattle.std.proofs.lemmas.List.{get_or_past}
 use Rattle.spec_linux_btf.specs.Documentation.{param, Described, described}
 use Rattle.spec_linux_btf.specs.Reading.{Bytes, kind_table, none, kind, shape, known}
 use Rattle.spec_linux_btf.specs.Places.{kind_p, member_p, tabulate, type_p, sound_p}
@@ -30,11 +31,6 @@ use Rattle.spec_opening.specs.Causes.{table_of}
 use Rattle.spec_opening.proofs.Index.{types_few, table_count, followed_place, followed_kind}
 use Rattle.spec_cut.specs.section.Kept.{member_ids, param_ids, followed_ids, void_type, type_of, third}
 use Rattle.spec_cut.specs.reopened.Seen.{SeenFrom}
-
-get_past : {A : Type 0} (l : List A) (i : ℕ) (d : A) → length l ≤ i → get_or l i d ≡ d
-get_past [] i d h = refl
-get_past (x ∷ l) zero d h = absurd (omega (arith, h))
-get_past (x ∷ l) (suc i) d h = get_past l i d (omega (arith, h))
 
 -- ---- lists that are made from a function
 
@@ -107,19 +103,15 @@ module _ (c : TypeTable) (s : List ℕ) (at : ℕ) where
       (λ e h. ap followed_ids (F.type-DECL-TAG w at e))
       (λ e h. ap followed_ids (F.type-TYPE-TAG w at e))
       (λ e h. ap followed_ids (F.type-ENUM64 w at e))
-      (λ k l e h. absurd (true≢false (sym (sym (ap (λ n. known (shape n)) (get_past kind_table k none l)) ∙ h))))
+      (λ k l e h. absurd (true≢false (sym (sym (ap (λ n. known (shape n)) (get_or_past kind_table k none l)) ∙ h))))
 
 third_is : (t : Described) → size_or_type t ≡ third t
 unfolding size_or_type
 third_is (described n f z body) = refl
 
-and_one : (a b : Bool) → (a && b) ≡ true → (a ≡ true) × (b ≡ true)
-and_one true b h = (refl, h)
-and_one false b h = absurd (true≢false (sym h))
-
-sound_known : (w : ℕ → ℕ) (len p : ℕ) → sound_p w len p ≡ true → known (shape (kind (kind_p w p))) ≡ true
+pub sound_known : (w : ℕ → ℕ) (len p : ℕ) → sound_p w len p ≡ true → known (shape (kind (kind_p w p))) ≡ true
 unfolding sound_p
-sound_known w len p h = (and_one (known (shape (kind (kind_p w p)))) _ (and_one (leb (p + 12) len) _ h).1).0
+sound_known w len p h = (and_parts (known (shape (kind (kind_p w p)))) _ (and_parts (leb (p + 12) len) _ h).1).0
 
 -- ---- the section
 
@@ -188,11 +180,11 @@ module _ (p : ℕ) (s : List ℕ) (y : Bytes s) (h : header_sound s ≡ true) (t
 
   to_ids : (x k : ℕ) → k < followed_count c s (index_of s) x → Memᴰ (followed_id c s (index_of s) x k) (followed_ids (type_of ts x))
   to_ids zero k l = absurd (omega (arith, l, zero_none))
-  to_ids (suc i) k l = go (le_or_lt (length ts) i)
+  to_ids (suc i) k l = go (cases_lt i (length ts))
     where
-      go : (length ts ≤ i) ⊎ (i < length ts) → Memᴰ (followed_id c s (index_of s) (suc i) k) (followed_ids (get_or ts i void_type))
-      go (inl q) = absurd (omega (arith, l, followed_none c s (index_of s) (suc i) (omega (arith, counted, q))))
-      go (inr q) =
+      go : (i < length ts) ⊎ (length ts ≤ i) → Memᴰ (followed_id c s (index_of s) (suc i) k) (followed_ids (get_or ts i void_type))
+      go (inr q) = absurd (omega (arith, l, followed_none c s (index_of s) (suc i) (omega (arith, counted, q))))
+      go (inl q) =
           let z : 0 + k ≡ k = omega arith in
           subst (λ (ids : List ℕ). Memᴰ (followed_id c s (index_of s) (suc i) k) ids) (sym (ids_at i q))
           (subst (λ (j : ℕ). Memᴰ (followed_id c s (index_of s) (suc i) j) (tabulate (followed_id c s (index_of s) (suc i)) 0 (followed_count c s (index_of s) (suc i)))) z
@@ -200,11 +192,11 @@ module _ (p : ℕ) (s : List ℕ) (y : Bytes s) (h : header_sound s ≡ true) (t
 
   from_ids : (x v : ℕ) → Memᴰ v (followed_ids (type_of ts x)) → (k : ℕ) × (k < followed_count c s (index_of s) x) × (followed_id c s (index_of s) x k ≡ v)
   from_ids zero v m = absurd (Memᴰ.not-nil m)
-  from_ids (suc i) v m = go (le_or_lt (length ts) i)
+  from_ids (suc i) v m = go (cases_lt i (length ts))
     where
-      go : (length ts ≤ i) ⊎ (i < length ts) → (k : ℕ) × (k < followed_count c s (index_of s) (suc i)) × (followed_id c s (index_of s) (suc i) k ≡ v)
-      go (inl q) = absurd (Memᴰ.not-nil (subst (λ (t : Described). Memᴰ v (followed_ids t)) (get_past ts i void_type q) m))
-      go (inr q) =
+      go : (i < length ts) ⊎ (length ts ≤ i) → (k : ℕ) × (k < followed_count c s (index_of s) (suc i)) × (followed_id c s (index_of s) (suc i) k ≡ v)
+      go (inr q) = absurd (Memᴰ.not-nil (subst (λ (t : Described). Memᴰ v (followed_ids t)) (get_or_past ts i void_type q) m))
+      go (inl q) =
           let r = tabulate_from (followed_id c s (index_of s) (suc i)) 0 (followed_count c s (index_of s) (suc i)) v (subst (λ (ids : List ℕ). Memᴰ v ids) (ids_at i q) m) in
           let z : r.0 ≡ 0 + r.0 = omega arith in
           (r.0, r.1, ap (followed_id c s (index_of s) (suc i)) z ∙ r.2)

@@ -3,8 +3,7 @@ use Prim.Native.Nat.{ℕ, zero, suc, ◌<◌, ◌≤◌}
 use native.Mathlib.Omega.{arith}
 use mathlib.Core.Path.{◌≡◌, refl, sym, ◌∙◌, ap}
 use mathlib.Core.Bool.{Bool, true, false, true≢false}
-use mathlib.Core.List.Memᴰ
-use mathlib.Core.List.{List, [], ◌∷◌, map, Memᴰ}
+use mathlib.Core.List.{List, [], ◌∷◌, map}
 use lib.ListN.{length, get_or}
 use lib.Dec.{eqb}
 use borrow.Author.Tests.{eqb-true, eqb-false}
@@ -88,12 +87,6 @@ tag_kind (described n f z (float v)) h = absurd (true≢false (sym h))
 tag_kind (described n f z (decl_tag v c)) h = refl
 tag_kind (described n f z (type_tag v)) h = absurd (true≢false (sym h))
 tag_kind (described n f z (enum64 es)) h = absurd (true≢false (sym h))
-
--- what a list mapped has, the list had
-pub map_from : (f : ℕ → ℕ) (xs : List ℕ) (y : ℕ) → Memᴰ y (map f xs) → (x : ℕ) × Memᴰ x xs × (f x ≡ y)
-map_from f [] y h = absurd (Memᴰ.not-nil h)
-map_from f (x ∷ xs) y (Memᴰ.head q) = (x, Memᴰ.head refl, sym q)
-map_from f (x ∷ xs) y (Memᴰ.tail h) = let r = map_from f xs y h in (r.0, Memᴰ.tail r.1, r.2)
 
 module _ (m : ℕ → Bool) where
   -- the id, at most n, that has a number

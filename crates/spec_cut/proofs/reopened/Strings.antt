@@ -9,11 +9,12 @@ use lib.ListN.{length, get_or, drop, take-append-drop, length-drop}
 use lib.Seq.{length-take-le, drop-drop}
 use lib.Dec.{leb, eqb}
 use borrow.Author.Tests.{leb-true, eqb-true, lt-ltb}
+use Rattle.std.specs.Cmp.{first_so, second_so}
 use Rattle.spec_linux_btf.specs.Documentation.{Member, member, Enumerator, enumerator, Param, param, Enumerator64, enumerator64, int, ptr, array, struct, union, enum, fwd, typedef, volatile, const, restrict, func, func_proto, var, datasec, float, decl_tag, type_tag, enum64, Described, described, Every, Named, Allowed, NamedMember, NamedParam, NamedEnumerator, NamedEnumerator64}
 use Rattle.spec_linux_btf.specs.Section.{is_big_endian, little_endian, hdr_len_of, type_len_of, str_off_of, str_len_of, types_at, strings_at, string_area, header_sound, strings_sound, last_of}
 use Rattle.spec_type_table.specs.Names.{up_to_zero, name_at, str_at}
 use Rattle.btf_open_causes.specs.header.Header as header
-use Rattle.btf_open_causes.proofs.header.Headers.{and_left, and_right, read4, read16}
+use Rattle.btf_open_causes.proofs.header.Headers.{read4, read16}
 use Rattle.spec_cut.specs.section.Strings.{member_names, param_names, value_names, value64_names, mentions, all_mentions}
 use Rattle.spec_cut.proofs.section.Names.{area_name}
 
@@ -82,24 +83,24 @@ module _ (sl : ℕ) where
 pub area_ends : (a : List ℕ) → strings_sound a ≡ true → last_of 1 a ≡ 0
 unfolding strings_sound
 area_ends a h =
-    let h1 = and_right (leb 1 (length a)) _ h in
-    let h2 = and_right (eqb (get_or a 0 1) 0) _ h1 in
-    eqb-true (last_of 1 a) 0 (and_left (eqb (last_of 1 a) 0) _ h2)
+    let h1 = second_so (leb 1 (length a)) _ h in
+    let h2 = second_so (eqb (get_or a 0 1) 0) _ h1 in
+    eqb-true (last_of 1 a) 0 (first_so (eqb (last_of 1 a) 0) _ h2)
 
 module _ (s : List ℕ) (h : header_sound s ≡ true) where
   long : 24 ≤ length s
   unfolding header_sound
-  long = leb-true 24 (length s) (and_left (leb 24 (length s)) _ h)
+  long = leb-true 24 (length s) (first_so (leb 24 (length s)) _ h)
 
   strings_fit : strings_at s + str_len_of s ≤ length s
   unfolding header_sound
   strings_fit =
-      let h1 = and_right (leb 24 (length s)) _ h in
-      let h2 = and_right (is_big_endian s || little_endian s) _ h1 in
-      let h3 = and_right (eqb (get_or s 2 0) 1) _ h2 in
-      let h4 = and_right (leb 24 (hdr_len_of s)) _ h3 in
-      let h5 = and_right (leb (hdr_len_of s) (length s)) _ h4 in
-      leb-true (strings_at s + str_len_of s) (length s) (and_right (leb (types_at s + type_len_of s) (length s)) _ h5)
+      let h1 = second_so (leb 24 (length s)) _ h in
+      let h2 = second_so (is_big_endian s || little_endian s) _ h1 in
+      let h3 = second_so (eqb (get_or s 2 0) 1) _ h2 in
+      let h4 = second_so (leb 24 (hdr_len_of s)) _ h3 in
+      let h5 = second_so (leb (hdr_len_of s) (length s)) _ h4 in
+      leb-true (strings_at s + str_len_of s) (length s) (second_so (leb (types_at s + type_len_of s) (length s)) _ h5)
 
   pub area_length : length (string_area s) ≡ str_len_of s
   unfolding string_area

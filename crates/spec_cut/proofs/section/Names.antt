@@ -1,39 +1,18 @@
 -- Each name that a kept type mentions stands in the new strings, where its new offset says. Assumes nothing.
 use Prim.Native.Nat.{ℕ, zero, suc, ◌+◌, ◌<◌}
 use native.Mathlib.Omega.{arith}
-use mathlib.Core.Path.{◌≡◌, refl, sym, ◌∙◌, ap, ap₂, subst}
+use mathlib.Core.Path.{◌≡◌, refl, sym, ◌∙◌, ap, subst}
 use mathlib.Core.Bool.{Bool, true, false, true≢false}
 use mathlib.Core.List.Memᴰ
 use mathlib.Core.List.{List, [], ◌∷◌, ◌++◌, Memᴰ}
 use lib.ListN.{length, get_or, drop, length-append}
-use lib.Dec.{eqb}
-use borrow.Author.Tests.{eq-eqb, eqb-true}
 use Rattle.spec_linux_btf.specs.Documentation.{Described, encode_strings}
 use Rattle.spec_linux_btf.specs.Section.{last_of}
 use Rattle.spec_c_dumper.specs.rules.Types.{Name}
 use Rattle.spec_c_dumper.specs.rules.Names.{same_bytes}
+use Rattle.spec_c_dumper.proofs.rules.Names.{bytes_self, bytes_same}
 use Rattle.spec_type_table.specs.Names.{up_to_zero, name_at}
 use Rattle.spec_cut.specs.section.Strings.{mentions, all_mentions, has, add_name, add_all, place_in}
-
-bytes_if : (a b : ℕ) (s t : List ℕ) → same_bytes (a ∷ s) (b ∷ t) ≡ true → (eqb a b ≡ true) × (same_bytes s t ≡ true)
-unfolding same_bytes
-bytes_if a b s t e = go (eqb a b) e
-  where
-    go : (q : Bool) → ◌≡◌ {A = Bool} (elim q [ true ↦ same_bytes s t | false ↦ false ]) true → (q ≡ true) × (same_bytes s t ≡ true)
-    go true h = (refl, h)
-    go false h = absurd (true≢false (sym h))
-
-pub same_bytes_lem : (s t : List ℕ) → same_bytes s t ≡ true → s ≡ t
-unfolding same_bytes
-same_bytes_lem [] [] e = refl
-same_bytes_lem [] (b ∷ t) e = absurd (true≢false (sym e))
-same_bytes_lem (a ∷ s) [] e = absurd (true≢false (sym e))
-same_bytes_lem (a ∷ s) (b ∷ t) e = let h = bytes_if a b s t e in ap₂ (λ (x : ℕ) (l : List ℕ). x ∷ l) (eqb-true a b h.0) (same_bytes_lem s t h.1)
-
-pub bytes_same : (s : List ℕ) → same_bytes s s ≡ true
-unfolding same_bytes
-bytes_same [] = refl
-bytes_same (a ∷ s) = ap (λ (q : Bool). elim q as (λ c. Bool) [ true ↦ same_bytes s s | false ↦ false ]) (eq-eqb a a refl) ∙ bytes_same s
 
 -- ---- what is stored
 
@@ -48,7 +27,7 @@ has_more (s ∷ ss) t name e = go (same_bytes s name) e (has_more ss t name)
 
 has_last : (ss : List Name) (name : Name) → has (ss ++ (name ∷ [])) name ≡ true
 unfolding has
-has_last [] name = ap (λ (q : Bool). elim q as (λ c. Bool) [ true ↦ true | false ↦ false ]) (bytes_same name)
+has_last [] name = ap (λ (q : Bool). elim q as (λ c. Bool) [ true ↦ true | false ↦ false ]) (bytes_self name)
 has_last (s ∷ ss) name = go (same_bytes s name) (has_last ss name)
   where
     go : (q : Bool) → has (ss ++ (name ∷ [])) name ≡ true → ◌≡◌ {A = Bool} (elim q [ true ↦ true | false ↦ has (ss ++ (name ∷ [])) name ]) true
@@ -63,7 +42,7 @@ add_keeps ss x name e = go (has ss x)
     go true = e
     go false = has_more ss (x ∷ []) name e
 
-add_has : (ss : List Name) (x : Name) → has (add_name ss x) x ≡ true
+pub add_has : (ss : List Name) (x : Name) → has (add_name ss x) x ≡ true
 unfolding add_name
 add_has ss x = go (has ss x) refl
   where
@@ -83,21 +62,12 @@ all_has old [] ss n k = absurd (Memᴰ.not-nil k)
 all_has old (x ∷ ns) ss n (Memᴰ.head e) = subst (λ (y : ℕ). has (add_all old (add_name ss (name_at old x)) ns) (name_at old y) ≡ true) (sym e) (all_keeps old ns (add_name ss (name_at old x)) (name_at old x) (add_has ss (name_at old x)))
 all_has old (x ∷ ns) ss n (Memᴰ.tail k) = all_has old ns (add_name ss (name_at old x)) n k
 
-mem_left : (xs ys : List ℕ) (n : ℕ) → Memᴰ n xs → Memᴰ n (xs ++ ys)
-mem_left [] ys n k = absurd (Memᴰ.not-nil k)
-mem_left (x ∷ xs) ys n (Memᴰ.head e) = Memᴰ.head e
-mem_left (x ∷ xs) ys n (Memᴰ.tail k) = Memᴰ.tail (mem_left xs ys n k)
-
-mem_right : (xs ys : List ℕ) (n : ℕ) → Memᴰ n ys → Memᴰ n (xs ++ ys)
-mem_right [] ys n k = k
-mem_right (x ∷ xs) ys n k = Memᴰ.tail (mem_right xs ys n k)
-
 -- what a type of the list mentions, the list mentions
 pub mention_in : (ts : List Described) (k : ℕ) (d : Described) → k < length ts → (n : ℕ) → Memᴰ n (mentions (get_or ts k d)) → Memᴰ n (all_mentions ts)
 unfolding all_mentions
 mention_in [] k d l n h = absurd (omega (arith, l))
-mention_in (t ∷ ts) zero d l n h = mem_left (mentions t) (all_mentions ts) n h
-mention_in (t ∷ ts) (suc k) d l n h = mem_right (mentions t) (all_mentions ts) n (mention_in ts k d (omega (arith, l)) n h)
+mention_in (t ∷ ts) zero d l n h = Memᴰ.append_left (all_mentions ts) h
+mention_in (t ∷ ts) (suc k) d l n h = Memᴰ.append_right (mentions t) (mention_in ts k d (omega (arith, l)) n h)
 
 -- ---- where it stands
 
@@ -127,7 +97,7 @@ name_placed (s ∷ ss) name z e = go (same_bytes s name) refl e (name_placed ss 
   where
     go : (q : Bool) → same_bytes s name ≡ q → ◌≡◌ {A = Bool} (elim q [ true ↦ true | false ↦ has ss name ]) true → (has ss name ≡ true → name_at (encode_strings ss) (place_in ss name) ≡ name)
         → up_to_zero (drop (elim q as (λ c. ℕ) [ true ↦ 0 | false ↦ suc (length s) + place_in ss name ]) (s ++ (0 ∷ encode_strings ss))) ≡ name
-    go true b h r = ap (λ (t : List ℕ). up_to_zero (t ++ (0 ∷ encode_strings ss))) (same_bytes_lem s name b) ∙ z (encode_strings ss)
+    go true b h r = ap (λ (t : List ℕ). up_to_zero (t ++ (0 ∷ encode_strings ss))) (bytes_same s name b) ∙ z (encode_strings ss)
     go false b h r = ap up_to_zero (drop_past s (place_in ss name) (encode_strings ss)) ∙ r h
 
 -- inside the strings

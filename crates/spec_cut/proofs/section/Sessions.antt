@@ -1,5 +1,5 @@
 -- The machine of lists with the names of the Rust goes alike over two tables whose ids stand for each other. Assumes nothing.
-use Prim.Native.Nat.{ℕ, zero, suc, ◌+◌, ◌<◌}
+use Prim.Native.Nat.{ℕ, ◌+◌, ◌<◌}
 use native.Mathlib.Decide.{ℕ_discrete}
 use mathlib.Core.Path.{◌≡◌, refl, sym, ◌∙◌, ap, ap₂, subst}
 use mathlib.Core.Bool.{Bool, true, false}
@@ -9,6 +9,7 @@ use lib.Seq.{get_or-set_same, get_or-set_other, lt-length-set}
 use lib.Dec.{leb, eqb}
 use Rattle.spec_bytes.specs.words.Words.{one_more}
 use Rattle.spec_bytes.specs.text.Text.{Text, whole, cut, bytes}
+use Rattle.spec_bytes.proofs.words.Laws.{get_replicate}
 use Rattle.spec_c_dumper.specs.rules.Types.{Name, BtfType, Btf, table_of}
 use Rattle.spec_c_dumper.specs.rules.Order.{new}
 use Rattle.spec_c_dumper.specs.rules.Machine.{Sess, Req, single}
@@ -48,11 +49,6 @@ pieces_more no_pieces q = q
 pieces_more (both_other t r) q = both_other t (pieces_more r q)
 pieces_more (both_define x x' i t r) q = both_define x x' i t (pieces_more r q)
 
-replicated : {A : Type 0} (d : A) (k x : ℕ) → get_or (replicate k d) x d ≡ d
-replicated d zero x = refl
-replicated d (suc k) zero = refl
-replicated d (suc k) (suc x) = replicated d k x
-
 module _ (B : Btf) (n : ℕ) (types : ℕ → BtfType) (tags : ℕ → List ℕ) (I : ℕ → ℕ → Type 0) (st : Stands B n types tags I) where
   abbrev B' : Btf
   B' = with_types B n types tags
@@ -73,7 +69,7 @@ module _ (B : Btf) (n : ℕ) (types : ℕ → BtfType) (tags : ℕ → List ℕ)
 
   fresh_list : {A : Type 0} (d : A) → SameList d I (replicate B.type_cnt d) (replicate n d)
   fresh_list d = record {
-    at = λ x x' i. replicated d B.type_cnt x ∙ sym (replicated d n x');
+    at = λ x x' i. get_replicate d B.type_cnt x ∙ sym (get_replicate d n x');
     long = λ x x' i. subst (λ (k : ℕ). x < k) (sym (length-replicate B.type_cnt d)) (st.inside x x' i).0;
     long' = λ x x' i. subst (λ (k : ℕ). x' < k) (sym (length-replicate n d)) (st.inside x x' i).1;
   }

@@ -7,6 +7,7 @@ use mathlib.Core.List.{List, ◌∷◌, Memᴰ}
 use lib.ListN.{length, get_or}
 use lib.Dec.{eqb}
 use borrow.Author.Tests.{eq-eqb, ne_eqb, eqb-true, eqb-false}
+use Rattle.std.proofs.lemmas.Bool.{and_parts}
 use Rattle.spec_linux_btf.specs.Documentation.{int, ptr, array, struct, union, enum, fwd, typedef, volatile, const, restrict, func, func_proto, var, datasec, float, decl_tag, type_tag, enum64, Described, described}
 use Rattle.spec_c_dumper.specs.rules.Types.{BtfType, Void, Btf as Rules}
 use Rattle.spec_type_table.specs.declared.types.TypeTable.{TypeTable}
@@ -111,10 +112,6 @@ new_tag_is b s i o id (described n f z (decl_tag v c)) = refl
 new_tag_is b s i o id (described n f z (type_tag v)) = refl
 new_tag_is b s i o id (described n f z (enum64 es)) = refl
 
-and_left : (a b : Bool) → (a && b) ≡ true → (a ≡ true) × (b ≡ true)
-and_left true b h = (refl, h)
-and_left false b h = absurd (true≢false (sym h))
-
 -- ts: the old types; m tells which are kept; B, of the header b and the section s, has the old types, B' those that are kept, renamed
 module _ (m : ℕ → Bool) (o : ℕ → ℕ) (ts : List Described) (B B' : Rules) (b b' : TypeTable) (s s' : List ℕ)
     (old : Reads B b s ts) (cut : Reads B' b' s' (renamed_all (new_id m) o (kept_types m 1 ts)))
@@ -207,7 +204,7 @@ module _ (m : ℕ → Bool) (o : ℕ → ℕ) (ts : List Described) (B B' : Rule
         go : (c : Bool) → is_tag_for x (B.type_by_id (suc p)) ≡ c → c ≡ false
         go false q = refl
         go true q =
-            let h = and_left (is_decl_tag (get_or ts p void_type)) (eqb (third (get_or ts p void_type)) x) (sym (ap (is_tag_for x) (old.type p l) ∙ tag_is b s x (get_or ts p void_type)) ∙ q) in
+            let h = and_parts (is_decl_tag (get_or ts p void_type)) (eqb (third (get_or ts p void_type)) x) (sym (ap (is_tag_for x) (old.type p l) ∙ tag_is b s x (get_or ts p void_type)) ∙ q) in
             let w : third (get_or ts p void_type) ≡ x = eqb-true (third (get_or ts p void_type)) x h.1 in
             absurd (true≢false (sym (tagged p l h.0 (subst (Stays m) (sym w) st) (λ z. nz (sym w ∙ z)) (ap (λ (k : ℕ). is_decl_tag (type_of ts k)) w ∙ nt)) ∙ e))
 

@@ -8,36 +8,13 @@ use mathlib.Core.List.Memᴰ
 use mathlib.Core.List.{List, [], ◌∷◌, Memᴰ}
 use mathlib.Core.Logic.{◌⊎◌, inl, inr}
 use lib.ListN.{length, get_or}
-use Rattle.spec_bytes.proofs.words.Laws.{le_or_lt}
 use lib.Dec.{eqb}
-use borrow.Author.Tests.{eqb-true, eq-eqb, ne_eqb, eqb-false}
+use borrow.Author.Tests.{eqb-true, eq-eqb, ne_eqb, eqb-false, not-true}
+use Rattle.std.proofs.lemmas.Bool.{and_parts, and_from, or_left, or_right, or_cases, cases_lt}
+use Rattle.std.proofs.lemmas.List.{get_or_past}
 use Rattle.spec_linux_btf.specs.Documentation.{Described}
 use Rattle.spec_cut.specs.section.Kept.{followed_ids, void_type, type_of, Reached, asked, onward, is_decl_tag, third, Kept, reached, its_tag, Tells}
 use Rattle.spec_cut.specs.section.Test.{is_in, leads, reached_by, follows, is_reached, is_its_tag, is_kept}
-
-or_cases : (a b : Bool) → (a || b) ≡ true → (a ≡ true) ⊎ (b ≡ true)
-or_cases true b h = inl refl
-or_cases false b h = inr h
-
-or_left : (a b : Bool) → a ≡ true → (a || b) ≡ true
-or_left true b h = refl
-or_left false b h = absurd (true≢false (sym h))
-
-or_right : (a b : Bool) → b ≡ true → (a || b) ≡ true
-or_right true b h = refl
-or_right false b h = h
-
-and_cases : (a b : Bool) → (a && b) ≡ true → (a ≡ true) × (b ≡ true)
-and_cases true b h = (refl, h)
-and_cases false b h = absurd (true≢false (sym h))
-
-and_from : (a b : Bool) → a ≡ true → b ≡ true → (a && b) ≡ true
-and_from true b h k = k
-and_from false b h k = absurd (true≢false (sym h))
-
-not_true : (a : Bool) → not a ≡ true → a ≡ false
-not_true true h = absurd (true≢false (sym h))
-not_true false h = refl
 
 pub is_in_lem : (y : ℕ) (xs : List ℕ) → is_in y xs ≡ true → Memᴰ y xs
 unfolding is_in
@@ -71,7 +48,7 @@ module _ (E : ℕ → ℕ → Bool) where
     where
       go : (leads E k x y ≡ true) ⊎ ((leads E k x (suc k) && leads E k (suc k) y) ≡ true) → (leads E k x y ≡ true) ⊎ ((leads E k x (suc k) ≡ true) × (leads E k (suc k) y ≡ true))
       go (inl e) = inl e
-      go (inr e) = inr (and_cases (leads E k x (suc k)) (leads E k (suc k) y) e)
+      go (inr e) = inr (and_parts (leads E k x (suc k)) (leads E k (suc k) y) e)
 
   -- a reference leads
   one_leads : (k x y : ℕ) → E x y ≡ true → leads E k x y ≡ true
@@ -160,21 +137,16 @@ module _ (E : ℕ → ℕ → Bool) (n : ℕ) where
             by (inl q) = subst P (eqb-true g y q) (a g (Memᴰ.head refl))
             by (inr q) = leads_all n g y (a g (Memᴰ.head refl)) q
 
-get_past : {A : Type 0} (l : List A) (i : ℕ) (d : A) → length l ≤ i → get_or l i d ≡ d
-get_past [] i d h = refl
-get_past (x ∷ l) zero d h = absurd (omega (arith, h))
-get_past (x ∷ l) (suc i) d h = get_past l i d (omega (arith, h))
-
 module _ (ts : List Described) (given : List ℕ) where
   -- a type that follows something is in the table
   in_table : (x y : ℕ) → follows ts x y ≡ true → (1 ≤ x) × (x ≤ length ts)
   unfolding follows
   in_table zero y h = absurd (Memᴰ.not-nil (is_in_lem y [] h))
-  in_table (suc i) y h = (omega arith, go (le_or_lt (length ts) i))
+  in_table (suc i) y h = (omega arith, go (cases_lt i (length ts)))
     where
-      go : (length ts ≤ i) ⊎ (i < length ts) → suc i ≤ length ts
-      go (inl q) = absurd (Memᴰ.not-nil (subst (λ (t : Described). Memᴰ y (followed_ids t)) (get_past ts i void_type q) (is_in_lem y (followed_ids (get_or ts i void_type)) h)))
-      go (inr q) = q
+      go : (i < length ts) ⊎ (length ts ≤ i) → suc i ≤ length ts
+      go (inl q) = q
+      go (inr q) = absurd (Memᴰ.not-nil (subst (λ (t : Described). Memᴰ y (followed_ids t)) (get_or_past ts i void_type q) (is_in_lem y (followed_ids (get_or ts i void_type)) h)))
 
   pub tests_reached : (x : ℕ) → is_reached ts given x ≡ true → Reached ts given x
   unfolding is_reached follows
@@ -193,10 +165,10 @@ module _ (ts : List Described) (given : List ℕ) where
       go : (is_reached ts given x ≡ true) ⊎ (is_its_tag ts given x ≡ true) → Kept ts given x
       go (inl r) = reached (tests_reached x r)
       go (inr r) =
-          let a = and_cases (is_decl_tag (type_of ts x)) _ r in
-          let b = and_cases (is_reached ts given (third (type_of ts x))) _ a.1 in
-          let c = and_cases (not (eqb (third (type_of ts x)) 0)) _ b.1 in
-          its_tag a.0 (tests_reached (third (type_of ts x)) b.0) (eqb-false (third (type_of ts x)) 0 (not_true (eqb (third (type_of ts x)) 0) c.0)) (not_true (is_decl_tag (type_of ts (third (type_of ts x)))) c.1)
+          let a = and_parts (is_decl_tag (type_of ts x)) _ r in
+          let b = and_parts (is_reached ts given (third (type_of ts x))) _ a.1 in
+          let c = and_parts (not (eqb (third (type_of ts x)) 0)) _ b.1 in
+          its_tag a.0 (tests_reached (third (type_of ts x)) b.0) (eqb-false (third (type_of ts x)) 0 (not-true (eqb (third (type_of ts x)) 0) c.0)) (not-true (is_decl_tag (type_of ts (third (type_of ts x)))) c.1)
 
   kept_tests : (x : ℕ) → Kept ts given x → is_kept ts given x ≡ true
   unfolding is_kept is_its_tag

@@ -4,12 +4,13 @@ use native.Mathlib.Omega.{arith}
 use mathlib.Core.Path.{◌≡◌, refl, ◌∙◌, ap, subst}
 use mathlib.Core.Bool.{Bool, true, false}
 use mathlib.Core.List.Memᴰ
-use mathlib.Core.List.{List, [], ◌∷◌, ◌++◌, Memᴰ}
+use mathlib.Core.List.{List, [], ◌∷◌, Memᴰ}
 use lib.ListN.{length, get_or}
 use Rattle.spec_linux_btf.specs.Documentation.{Member, member, Enumerator, enumerator, Param, param, Secinfo, secinfo, Enumerator64, enumerator64, int, ptr, array, struct, union, enum, fwd, typedef, volatile, const, restrict, func, func_proto, var, datasec, float, decl_tag, type_tag, enum64, Described, described, btf_info, FitRanges, Every, FitMember, FitEnumerator, FitParam, FitSecinfo, FitEnumerator64, Fits, NamedMember, NamedEnumerator, NamedParam, NamedEnumerator64, Named, Allowed, encode_all}
 use Rattle.spec_linux_btf.specs.Reading.{decode_all}
 use Rattle.spec_linux_btf.specs.Section.{is_big_endian, type_area, string_area, header_sound, types_sound}
 use Rattle.spec_linux_btf.proofs.Section.{section_order, section_strings, section_header, section_sound, section_read}
+use Rattle.spec_linux_btf.proofs.Area.{allowed_fits}
 use Rattle.spec_type_table.specs.Names.{name_at}
 use Rattle.spec_cut.specs.section.Renumbered.{new_id, kept_types, new_members, new_params, new_values, new_values64, new_secinfos, renamed, renamed_all}
 use Rattle.spec_cut.specs.section.Strings.{member_names, param_names, value_names, value64_names, mentions, all_mentions, first_names}
@@ -147,26 +148,13 @@ every_kept P m x (t ∷ ts) h = go (m x) (every_kept P m (suc x) ts h.1)
     go true r = (h.0, r)
     go false r = r
 
-mem_one : (xs ys : List ℕ) (n : ℕ) → Memᴰ n xs → Memᴰ n (xs ++ ys)
-mem_one [] ys n k = absurd (Memᴰ.not-nil k)
-mem_one (x ∷ xs) ys n (Memᴰ.head e) = Memᴰ.head e
-mem_one (x ∷ xs) ys n (Memᴰ.tail k) = Memᴰ.tail (mem_one xs ys n k)
-
-mem_two : (xs ys : List ℕ) (n : ℕ) → Memᴰ n ys → Memᴰ n (xs ++ ys)
-mem_two [] ys n k = k
-mem_two (x ∷ xs) ys n k = Memᴰ.tail (mem_two xs ys n k)
-
 all_allowed : (i o : ℕ → ℕ) (sl : ℕ) → sl ≤ 4294967296 → ((x : ℕ) → i x ≤ x) → (ts : List Described) → ((n : ℕ) → Memᴰ n (all_mentions ts) → o n < sl) → Every Fits ts → Every (Allowed sl) (renamed_all i o ts)
 unfolding all_mentions
 all_allowed i o sl small low [] p h = tt
 all_allowed i o sl small low (t ∷ ts) p h = (
-  (renamed_fits i o sl small low t (λ n k. p n (mem_one (mentions t) (all_mentions ts) n k)) h.0, renamed_named i o sl small low t (λ n k. p n (mem_one (mentions t) (all_mentions ts) n k))),
-  all_allowed i o sl small low ts (λ n k. p n (mem_two (mentions t) (all_mentions ts) n k)) h.1,
+  (renamed_fits i o sl small low t (λ n k. p n (Memᴰ.append_left (all_mentions ts) k)) h.0, renamed_named i o sl small low t (λ n k. p n (Memᴰ.append_left (all_mentions ts) k))),
+  all_allowed i o sl small low ts (λ n k. p n (Memᴰ.append_right (mentions t) k)) h.1,
 )
-
-pub just_fits : (sl : ℕ) (ts : List Described) → Every (Allowed sl) ts → Every Fits ts
-just_fits sl [] h = tt
-just_fits sl (t ∷ ts) h = (h.0.0, just_fits sl ts h.1)
 
 -- The new section, not over 16,777,216 bytes in its areas, of a section whose types fit: its header and types pass causes 3 and 5, and it is read as the
 -- new types and the new strings, in the old order of bytes.
@@ -192,7 +180,7 @@ module _ (m : ℕ → Bool) (s : List ℕ) (flags : get_or s 3 0 < 256) (fit : E
 
   pub read_types : decode_all (is_big_endian s) (type_area (cut_section m s)) ≡ new_types m s
   unfolding cut_section
-  read_types = section_read (is_big_endian s) (get_or s 3 0) (new_types m s) (new_strings m s) flags tl sl (just_fits (length (new_strings m s)) (new_types m s) allowed) new_few
+  read_types = section_read (is_big_endian s) (get_or s 3 0) (new_types m s) (new_strings m s) flags tl sl (allowed_fits (length (new_strings m s)) (new_types m s) allowed) new_few
 
   pub read_strings : string_area (cut_section m s) ≡ new_strings m s
   unfolding cut_section

@@ -13,6 +13,7 @@ use lib.Seq.{length-take-le, take-take, take-append-le, drop_at}
 use borrow.Author.Tests.{lt-ltb, le-ltb, eqb-false}
 use borrow.Rule.Slice.PartMut.{mid_len}
 use Rattle.spec_bytes.specs.text.Placed.{place}
+use Rattle.spec_bytes.proofs.text.TextLaws.{place_length}
 use Rattle.spec_c_dumper.specs.rules.Machine.{Out}
 use Rattle.spec_type_table.specs.declared.types.TypeTable.{TypeTable}
 use Rattle.spec_opening.specs.Causes.{opening_number}
@@ -24,7 +25,7 @@ use Rattle.spec_session.specs.declared.session.Session.{Session}
 use Rattle.spec_session.specs.calls.Refusals.{number, value}
 use Rattle.spec_session.specs.session.Turns.{Call, is_current, Reach, reached, refused_by, then_zeros, settled, unchanged, table_for, visits_in}
 use Rattle.spec_session.specs.calls.Calls.{opened_call, open_call, limit_of, came_to, lent_to, requested, onward, requested_from, type_call, types_call}
-use Rattle.spec_session.proofs.calls.Fair.{Listed, Fair, goes, stops, Inside, placed}
+use Rattle.spec_session.proofs.calls.Fair.{Listed, Fair, goes, stops, Inside}
 use Rattle.spec_session.proofs.calls.Laws.{opens_refused, opens_sound, limit_between, fair_asked}
 use Rattle.spec_session.proofs.session.Laws.{current_fits}
 
@@ -90,7 +91,7 @@ module _ (l : ℕ) (p : List ℕ) (n : ℕ) where
     unfolding came_to
     came_sane v k fits _ (goes m g) =
         let room : len + length m.text ≤ length t = omega (arith, g.1) in
-        let size : length (place t len m.text) ≡ length t = placed t len m.text room in
+        let size : length (place t len m.text) ≡ length t = place_length t len m.text room in
         let head : length (take len t) ≡ len = length-take-le len t (omega arith) in
         on (len + m.at) m.work (place t len m.text) (omega arith) (omega (arith, g.0, g.1)) (size ∙ long)
         (ap (take l) (assoc (take len t) m.text (drop (len + length m.text) t))

@@ -2,17 +2,16 @@
 use Prim.Native.Nat.{ℕ, zero, suc, ◌+◌, ◌-◌, ◌≤◌}
 use mathlib.Core.Path.{◌≡◌, ◌∙◌}
 use mathlib.Core.Bool.{Bool, true, false, not, ◌&&◌, ◌||◌}
-use mathlib.Core.List.{List, [], ◌∷◌, ◌++◌}
+use mathlib.Core.List.{List, [], ◌∷◌}
 use mathlib.Core.Logic.{⊎_elim, inl, inr}
 use native.Mathlib.Omega.{arith}
-use lib.ListN.{length, take, drop, length-append, length-drop}
+use lib.ListN.{length}
 use lib.Dec.{eqb}
-use lib.Seq.{length-take-le}
+use Rattle.std.proofs.lemmas.Bool.{cases_lt}
 use Rattle.std.specs.Prelude.{Ok}
 use Rattle.spec_bytes.specs.text.Text.{Text, bytes}
 use Rattle.spec_bytes.specs.text.Placed.{stopped, put_text, place, written}
-use Rattle.spec_bytes.proofs.words.Laws.{le_or_lt}
-use Rattle.spec_bytes.proofs.text.TextLaws.{put_fits, put_none}
+use Rattle.spec_bytes.proofs.text.TextLaws.{put_fits, put_none, place_length}
 use Rattle.spec_c_dumper.specs.rules.Order.{Node, ignored, plain, listed, through, ptr, tdef, proto, comp, Table, is_comp, is_done, Mark, new, busy, done, Store, Res, ok, refused, bind, each, meet, push_if, finish, enter, alias, fresh, visit, order}
 use Rattle.spec_c_dumper.specs.rules.Machine.{Out, wrote, stuck, Machine, is_zero, pick, obind, eeach, once, mention, again, close, leaf, within, begin, allowed, look, emit}
 use Rattle.spec_c_dumper.specs.rules.Types.{Btf as Rules, table_of}
@@ -204,12 +203,6 @@ module _ {M : Type 0} (Good : M → Type 0) where
 abbrev pub Inside : ℕ → Sheet → Type 0
 Inside k m = (m.at ≤ length m.text) × (length m.text ≡ k)
 
-pub placed : (t : List ℕ) (at : ℕ) (a : List ℕ) → at + length a ≤ length t → length (place t at a) ≡ length t
-placed t at a h =
-    let l : at ≤ length t = omega arith in
-    length-append (take at t ++ a) (drop (at + length a) t)
-    ∙ omega (arith, length-append (take at t) a, length-take-le at t l, length-drop (at + length a) t)
-
 listed_code : (c : ℕ) → Code c → Listed c
 listed_code c (inl e) = (omega arith, omega arith)
 listed_code c (inr (inl e)) = (omega arith, omega arith)
@@ -220,7 +213,7 @@ listed_code c (inr (inr (inr e))) = (omega arith, omega arith)
 module _ (n : ℕ) (t : List ℕ) (at : ℕ) (h : at ≤ length t) (k : ℕ) (long : length t ≡ k) (u : List ℕ) where
   fair_told : (x : Text) → length (bytes x) ≤ length t - at → Told x → Fair (Inside k) (sheet_of n (with_names u (written t at x)))
   unfolding sheet_of with_names written bytes
-  fair_told _ l (told a) = goes (record { work = u; text = place t at a; at = at + length a; len = n }) (omega (arith, placed t at a (omega arith)), placed t at a (omega arith) ∙ long)
+  fair_told _ l (told a) = goes (record { work = u; text = place t at a; at = at + length a; len = n }) (omega (arith, place_length t at a (omega arith)), place_length t at a (omega arith) ∙ long)
   fair_told _ l (cut_by a c q) = stops c (listed_code c q)
 
   fair_full : Fair (Inside k) (sheet_of n (with_names u (stopped 17)))
@@ -230,9 +223,9 @@ module _ (n : ℕ) (t : List ℕ) (at : ℕ) (h : at ≤ length t) (k : ℕ) (lo
   fair_put : (x : Text) → Told x → Fair (Inside k) (sheet_of n (with_names u (put_text t (Ok at) x)))
   fair_put x q =
       ⊎_elim
-      (λ l. rw (put_fits t at x l) (fair_told x l q))
       (λ l. rw (put_none t at x l) fair_full)
-      (le_or_lt (length (bytes x)) (length t - at))
+      (λ l. rw (put_fits t at x l) (fair_told x l q))
+      (cases_lt (length t - at) (length (bytes x)))
 
 pub fair_line : (k : ℕ) (v : Writer (List ℕ)) → Tells v → (m : Sheet) → Inside k m → Fair (Inside k) (line_in v m)
 unfolding line_in put_said said_text

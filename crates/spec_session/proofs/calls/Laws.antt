@@ -10,11 +10,11 @@ use lib.Dec.{eqb}
 use lib.Seq.{length-take-le, take_at, drop-drop}
 use borrow.Author.Tests.{le-leb, lt-leb}
 use borrow.Rule.Slice.PartMut.{mid_of, post_of, put_mid, mid_len, same_len_mid, put_same}
+use Rattle.std.proofs.lemmas.Bool.{cases_lt}
 use Rattle.std.specs.Prelude.{Some, None, Result, Ok, Err}
 use Rattle.spec_bytes.specs.Refusals.{refusal_number}
 use Rattle.spec_bytes.specs.declared.refusal.Refusal.{Refusal}
 use Rattle.spec_bytes.specs.text.Placed.{place}
-use Rattle.spec_bytes.proofs.words.Laws.{le_or_lt}
 use Rattle.spec_c_dumper.specs.rules.Order.{Node, ignored, plain, listed, through, ptr, tdef, proto, comp, Mark, new, busy, done, Res, fresh, visit, order}
 use Rattle.spec_c_dumper.specs.rules.Machine.{Out, wrote, stuck, obind, eeach}
 use Rattle.spec_c_dumper.specs.rules.Types.{table_of}
@@ -56,9 +56,9 @@ module _ (n len : ℕ) where
   pub limit_between : len ≤ n → (len ≤ limit_of n len) × (limit_of n len ≤ n)
   limit_between h =
       ⊎_elim
+      (λ l. ⊎_elim (λ k. (omega (arith, limit_none l k), omega (arith, limit_none l k))) (λ k. (omega (arith, limit_long l k), omega (arith, limit_long l k))) (cases_lt 1073741824 len))
       (λ l. (omega (arith, limit_short l), omega (arith, limit_short l)))
-      (λ l. ⊎_elim (λ k. (omega (arith, limit_long l k), omega (arith, limit_long l k))) (λ k. (omega (arith, limit_none l k), omega (arith, limit_none l k))) (le_or_lt len 1073741824))
-      (le_or_lt n 1073741824)
+      (cases_lt 1073741824 n)
 
 -- ---- arrived
 module _ (len v : ℕ) where

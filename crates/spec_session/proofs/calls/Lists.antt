@@ -11,8 +11,8 @@ use native.Mathlib.Numerals.{add-one}
 use lib.ListN.{length, take}
 use lib.Dec.{eqb, leb, ltb}
 use borrow.Author.Tests.{le-leb, lt-leb, eq-eqb, eqb-true, ltb-true, ltb-false}
+use Rattle.std.proofs.lemmas.Bool.{cases_lt}
 use Rattle.spec_bytes.specs.words.Words.{get_word, table, words}
-use Rattle.spec_bytes.proofs.words.Laws.{le_or_lt}
 use Rattle.spec_session.specs.session.Answers.{Refused, number_of, value_of, answer_of}
 use Rattle.spec_session.specs.declared.session.Session.{Session}
 use Rattle.spec_session.specs.session.Turns.{Call, call_of, is_current, Reach, reached, refused_by, with_text, then_zeros, settled, unchanged, table_for, visits_in}
@@ -45,7 +45,7 @@ module _ (b : List ℕ) where
   count_many h = rw (lt-leb (length b / 4) 4294967295 h, count_in)
 
   count_is : count_in b ≡ length b / 4 - (length b / 4 - 4294967295)
-  count_is = ⊎_elim (λ l. count_few l ∙ omega arith) (λ l. count_many l ∙ omega arith) (le_or_lt (length b / 4) 4294967295)
+  count_is = ⊎_elim (λ l. count_many l ∙ omega arith) (λ l. count_few l ∙ omega arith) (cases_lt 4294967295 (length b / 4))
 
   pub ids_all : ids_in b ≡ ids_from b 0 (count_in b)
   unfolding ids_in ids_from words
@@ -158,10 +158,10 @@ pub record Single (s : Session) (t : List ℕ) (c : Call) : Type 0 where
   pub counts : number_of c.answer ≡ 0 → c.session.visits ≡ visits_in c.work
   pub leaves : (number_of c.answer ≡ 0 → ⊥) → c.session.visits ≡ s.visits
 
-formed_of : (n v : ℕ) → answer_of n v ≡ answer_of (number_of (answer_of n v)) (value_of (answer_of n v))
+pub formed_of : (n v : ℕ) → answer_of n v ≡ answer_of (number_of (answer_of n v)) (value_of (answer_of n v))
 formed_of n v = sym (λ i. answer_of (number_is n v i) (value_is n v i))
 
-settled_formed : (s : Session) (wn tn : ℕ) (r : Reach) → (settled s wn tn r).answer ≡ answer_of (number_of (settled s wn tn r).answer) (value_of (settled s wn tn r).answer)
+pub settled_formed : (s : Session) (wn tn : ℕ) (r : Reach) → (settled s wn tn r).answer ≡ answer_of (number_of (settled s wn tn r).answer) (value_of (settled s wn tn r).answer)
 unfolding settled
 settled_formed s wn tn (reached len w t) = formed_of 0 len
 settled_formed s wn tn (refused_by c len v t) = formed_of c len

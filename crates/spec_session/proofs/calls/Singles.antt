@@ -15,6 +15,7 @@ use Rattle.std.specs.Prelude.{Ok}
 use Rattle.spec_bytes.specs.words.Words.{get_word}
 use Rattle.spec_bytes.specs.text.Placed.{Out as TextOut, done as written_to, stopped, place}
 use Rattle.spec_bytes.proofs.words.Laws.{put_length}
+use Rattle.spec_bytes.proofs.text.TextLaws.{place_length}
 use Rattle.spec_c_dumper.specs.rules.Machine.{Out}
 use Rattle.spec_c_dumper.specs.rules.Types.{Btf as Rules, table_of}
 use Rattle.spec_c_dumper.specs.rules.Writer.{Said, said, said_names, Writer}
@@ -25,32 +26,26 @@ use Rattle.btf_layout.proofs.refusals.InWork.{definition_keeps, forward_keeps, d
 use Rattle.spec_c_dumper.proofs.rules.Keeps.{Keeps}
 use Rattle.spec_c_dumper.proofs.rules.Refusals.{Tells}
 use Rattle.spec_type_table.specs.declared.types.TypeTable.{TypeTable}
-use Rattle.spec_type_table.specs.Cells.{get_field, class_p, count_p, with_more, count_raised}
+use Rattle.spec_type_table.specs.Cells.{get_field, class_p, count_p, count_raised}
 use Rattle.spec_type_table.specs.Numbers.{number_at}
 use Rattle.spec_type_table.specs.Table.{btf_of, type_version_in, enumerator_of, value_version_in, work_naming}
+use Rattle.spec_type_table.proofs.Frame.{more_length}
 use Rattle.c_dumper_dependency_order.specs.order_state.Work.{work_store}
-use Rattle.spec_session.specs.emission.Sheet.{Sheet, sheet_store, sheet_of, emptied, line_in, work_machine}
+use Rattle.spec_session.specs.emission.Sheet.{Sheet, sheet_store, sheet_of, line_in, work_machine}
 use Rattle.spec_c_dumper.specs.rules.Request.{dumped}
 use Rattle.btf_open_causes.specs.header.Header.{btf_of as settings_of}
 use Rattle.spec_session.specs.declared.session.Session.{Session}
 use Rattle.spec_session.specs.session.Answers.{number_of, answer_of}
 use Rattle.spec_session.specs.session.Turns.{Call, is_current, Reach, reached, refused_by, with_text, then_zeros, settled, table_for, visits_in}
 use Rattle.spec_session.specs.calls.Calls.{limit_of, came_to, lent_to, requested, onward, requested_from, type_call, types_call}
-use Rattle.spec_session.proofs.calls.Fair.{Listed, Fair, goes, stops, Fairly, fair_dumped, Inside, fair_line, placed}
+use Rattle.spec_session.proofs.calls.Fair.{Listed, Fair, goes, stops, Fairly, fair_dumped, Inside, fair_line}
 use Rattle.spec_session.proofs.calls.Laws.{limit_between}
 use Rattle.spec_session.proofs.session.Laws.{current_fits}
 use Rattle.spec_session.proofs.calls.Claims.{number_is, zeros_length, zeros_head, type_settles, types_settle}
 use Rattle.spec_session.proofs.calls.Tails.{Both, goes as go_both, stops as stop_both, Like, like, both_request}
+use Rattle.spec_session.proofs.emission.Lawful.{emptied_length}
 
 -- ---- the work keeps its length
-more_length : (w : List ℕ) (i : ℕ) → length (with_more w i) ≡ length w
-unfolding with_more
-more_length w i = go (ltb (get_word w i) 4294967295) refl
-  where
-    go : (q : Bool) → ltb (get_word w i) 4294967295 ≡ q → length (with_more w i) ≡ length w
-    go true e = rw (e, with_more) (put_length w i (get_word w i + 1))
-    go false e = rw (e, with_more)
-
 counted_length : (types h : ℕ) (w : List ℕ) → length (count_raised (class_p types) (count_p types) w h) ≡ length w
 unfolding count_raised
 counted_length types h w = more_length w (count_p types (get_word w (class_p types h)))
@@ -70,11 +65,6 @@ value_length types e w = go (ltb (types + e) 4294967296) refl
     go : (q : Bool) → ltb (types + e) 4294967296 ≡ q → length (value_version_in types e w).names ≡ length w
     go true h = rw (h, value_version_in) (counted_length types (types + e) w)
     go false h = rw (h, value_version_in)
-
-emptied_length : (n : ℕ) (w : List ℕ) → length (emptied n w) ≡ length w
-unfolding emptied
-emptied_length zero w = refl
-emptied_length (suc n) w = put_length (emptied n w) (n * 16 + 11) 0 ∙ emptied_length n w
 
 abbrev Sized : ℕ → ℕ → Sheet → Type 0
 Sized k j m = (m.at ≤ length m.text) × (length m.text ≡ k) × (length m.work ≡ j)
@@ -139,7 +129,7 @@ module _ (wn tn len : ℕ) (t t' : List ℕ) (lt : length t ≡ tn) (lt' : lengt
   unfolding came_to
   came_pair v k fits _ _ (go_both _ _ (like w u u' at ln h long eq)) (goes _ g) =
       let room : len + length u ≤ length t = omega (arith, g.1) in
-      on_both (len + at) w (place t len u) (place t' len u') (omega (arith, g.0, g.1)) g.2 (placed t len u room ∙ lt)
+      on_both (len + at) w (place t len u) (place t' len u') (omega (arith, g.0, g.1)) g.2 (place_length t len u room ∙ lt)
       (placed_take t u len at (omega arith) h ∙ (λ i. same i ++ eq i) ∙ sym (placed_take t' u' len at (omega arith) (omega arith)))
   came_pair v k fits _ _ (stop_both c) (stops _ l) = subst (λ (p : List ℕ). Pair wn tn (refused_by c len v (take len t)) (refused_by c len v p)) same (off_both c len v (take len t) l)
 

@@ -9,11 +9,11 @@ use native.Mathlib.Omega.{arith}
 use lib.ListN.{length, take, drop, length-append}
 use lib.Dec.{eqb}
 use lib.Seq.{length-take-le, take_at}
+use Rattle.std.proofs.lemmas.Bool.{cases_lt}
 use Rattle.std.specs.Prelude.{Ok}
 use Rattle.spec_bytes.specs.text.Text.{Text, whole, cut, bytes}
 use Rattle.spec_bytes.specs.text.Placed.{stopped, put_text, place, written}
-use Rattle.spec_bytes.proofs.words.Laws.{le_or_lt}
-use Rattle.spec_bytes.proofs.text.TextLaws.{put_fits, put_none}
+use Rattle.spec_bytes.proofs.text.TextLaws.{put_fits, put_none, place_length}
 use Rattle.spec_c_dumper.specs.rules.Order.{Node, ignored, plain, listed, through, ptr, tdef, proto, comp, Table, is_comp, is_done, Mark, new, busy, done, Store, Res, ok, refused, bind, each, meet, push_if, finish, enter, alias, fresh, visit, order}
 use Rattle.spec_c_dumper.specs.rules.Machine.{Out, wrote, stuck, Machine, is_zero, pick, obind, eeach, once, mention, again, close, leaf, within, begin, allowed, look, emit}
 use Rattle.spec_c_dumper.specs.rules.Types.{Btf as Rules, table_of}
@@ -22,7 +22,6 @@ use Rattle.spec_c_dumper.specs.rules.Place.{with_names, put_said}
 use Rattle.spec_type_table.specs.declared.types.TypeTable.{TypeTable}
 use Rattle.spec_session.specs.emission.Sheet.{Sheet, sheet_store, sheet_of, line_in, work_machine}
 use Rattle.spec_c_dumper.specs.rules.Request.{listed_out, dumped}
-use Rattle.spec_session.proofs.calls.Fair.{placed}
 
 module _ {M : Type 0} (R : M → M → Type 0) where
   pub data Both : Out M → Out M → Type 0 where
@@ -235,7 +234,7 @@ module _ (n : ℕ) (t t' : List ℕ) (at : ℕ) (h : at ≤ length t) (long : le
   both_written (whole a) l =
       let l' : at + length a ≤ length t' = omega arith in
       goes (record { work = u; text = place t at a; at = at + length a; len = n }) (record { work = u; text = place t' at a; at = at + length a; len = n })
-      (like u (place t at a) (place t' at a) (at + length a) n (omega (arith, placed t at a (omega arith))) (placed t at a (omega arith) ∙ long ∙ sym (placed t' at a l'))
+      (like u (place t at a) (place t' at a) (at + length a) n (omega (arith, place_length t at a (omega arith))) (place_length t at a (omega arith) ∙ long ∙ sym (place_length t' at a l'))
       (placed_head t at a h ∙ ap (λ (p : List ℕ). p ++ a) same ∙ sym (placed_head t' at a (omega arith))))
   both_written (cut a c) l = stops c
 
@@ -246,9 +245,9 @@ module _ (n : ℕ) (t t' : List ℕ) (at : ℕ) (h : at ≤ length t) (long : le
   both_put : (x : Text) → Both Like (sheet_of n (with_names u (put_text t (Ok at) x))) (sheet_of n (with_names u (put_text t' (Ok at) x)))
   both_put x =
       ⊎_elim
-      (λ l. rw (put_fits t at x l, put_fits t' at x (omega arith)) (both_written x l))
       (λ l. rw (put_none t at x l, put_none t' at x (omega arith)) both_full)
-      (le_or_lt (length (bytes x)) (length t - at))
+      (λ l. rw (put_fits t at x l, put_fits t' at x (omega arith)) (both_written x l))
+      (cases_lt (length t - at) (length (bytes x)))
 
 both_line : (v : Writer (List ℕ)) (m m' : Sheet) → Like m m' → Both Like (line_in v m) (line_in v m')
 unfolding line_in put_said

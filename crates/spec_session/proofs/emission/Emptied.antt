@@ -1,8 +1,7 @@
 -- The order list, emptied place by place. Assumes nothing.
-use Prim.Native.Nat.{ℕ, ◌+◌, ◌≤◌}
+use Prim.Native.Nat.{ℕ, ◌+◌}
 use mathlib.Core.Path.{◌≡◌, refl, ap, ◌∙◌}
 use mathlib.Core.List.{List}
-use native.Mathlib.Omega.{arith}
 use native.Mathlib.Numerals.{add-one}
 use Rattle.spec_type_table.specs.Cells.{put_field}
 use Rattle.spec_session.specs.emission.Sheet.{emptied}
@@ -14,6 +13,3 @@ emptied_none w = refl
 pub emptied_more : (w u : List ℕ) (k : ℕ) (u' : List ℕ) → u ≡ emptied k w → u' ≡ put_field u k 11 0 → u' ≡ emptied (k + 1) w
 unfolding emptied
 emptied_more w u k u' e f = f ∙ ap (λ (l : List ℕ). put_field l k 11 0) e ∙ rw add-one
-
-pub emptied_all : (w u : List ℕ) (k n : ℕ) → k ≤ n → n ≤ k → u ≡ emptied k w → u ≡ emptied n w
-emptied_all w u k n l h e = let q : k ≡ n = omega arith in e ∙ ap (λ (i : ℕ). emptied i w) q

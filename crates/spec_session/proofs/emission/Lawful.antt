@@ -7,15 +7,15 @@ use mathlib.Core.Bool.{Bool, true, false}
 use mathlib.Core.Logic.{◌⊎◌, inl, inr, ⊎_elim, ◌≢◌}
 use native.Mathlib.Omega.{arith}
 use lib.Dec.{eqb, ltb}
-use lib.ListN.{length, take, drop, length-append, length-drop}
-use lib.Seq.{length-take-le}
+use lib.ListN.{length}
+use Rattle.std.proofs.lemmas.Bool.{cases_lt}
 use Rattle.std.specs.Prelude.{Ok}
 use Rattle.spec_bytes.specs.text.Text.{Text, whole, cut, bytes}
-use Rattle.spec_bytes.specs.text.Placed.{Out as TextOut, place, written, put_text}
-use Rattle.spec_bytes.specs.words.Words.{get_word, put_word}
-use Rattle.spec_bytes.proofs.words.Laws.{le_or_lt, get_put_same, get_put_other, put_length}
-use Rattle.spec_bytes.proofs.text.TextLaws.{put_fits, put_none}
-use Rattle.spec_c_dumper.specs.rules.Order.{Table, Mark, new, busy, done, Lawful, Framed}
+use Rattle.spec_bytes.specs.text.Placed.{Out as TextOut, written, put_text}
+use Rattle.spec_bytes.specs.words.Words.{get_word}
+use Rattle.spec_bytes.proofs.words.Laws.{get_put_same, get_put_other, put_length}
+use Rattle.spec_bytes.proofs.text.TextLaws.{put_fits, put_none, place_length}
+use Rattle.spec_c_dumper.specs.rules.Order.{Table, Lawful, Framed}
 use Rattle.spec_c_dumper.specs.rules.Machine.{Out, wrote, stuck, Machine, Fine, OHolds, ogood, obad, Same, OrderKeeps, Defines, MLawful}
 use Rattle.spec_c_dumper.specs.rules.Types.{Name, BtfType, Btf as Rules}
 use Rattle.spec_c_dumper.specs.rules.Names.{Space, Resolved}
@@ -27,13 +27,13 @@ use Rattle.spec_c_dumper.proofs.rules.Keeps.{Keeps}
 use Rattle.btf_layout.proofs.refusals.InWork.{definition_keeps as def_keeps, forward_keeps as fwd_keeps, definition_tells, forward_tells}
 use Rattle.spec_c_dumper.proofs.rules.Refusals.{Told, told, cut_by, Tells}
 use Rattle.spec_type_table.specs.declared.types.TypeTable.{TypeTable}
-use Rattle.spec_type_table.specs.Cells.{get_field, put_field, class_p, count_p, count_raised, with_more}
+use Rattle.spec_type_table.specs.Cells.{get_field, put_field, class_p, count_p, count_raised}
 use Rattle.spec_type_table.specs.Numbers.{number_at}
 use Rattle.spec_type_table.specs.Table.{from, work_naming, type_version_in, value_version_in, enumerator_of}
 use Rattle.spec_type_table.proofs.Laws.{place_type, place_enum}
-use Rattle.spec_type_table.proofs.Frame.{field_other, counted_other}
+use Rattle.spec_type_table.proofs.Frame.{field_other, counted_other, more_length}
 use Rattle.c_dumper_dependency_order.specs.order_state.Work.{Marks, mark_of, code, work_store}
-use Rattle.c_dumper_dependency_order.proofs.order_state.Lawful.{work_lawful}
+use Rattle.c_dumper_dependency_order.proofs.order_state.Lawful.{work_lawful, mark_code}
 use Rattle.spec_session.specs.emission.Sheet.{Sheet, marks_in, sheet_store, emptied, sheet_of, line_in, work_machine}
 use Rattle.spec_c_dumper.specs.rules.Request.{dumped}
 use Rattle.spec_session.specs.emission.Tagged.{Tagged, tagged, tagged_machine}
@@ -42,14 +42,6 @@ use Rattle.spec_c_dumper.proofs.rules.Maps.{omap, StoreMap, MachineMap, map_dump
 -- ---- what names leave alone: the length, and words 1 and 13 of the cells
 abbrev words : ℕ → List ℕ → ℕ → ℕ
 words f w k = get_field w k f
-
-more_length : (w : List ℕ) (i : ℕ) → length (with_more w i) ≡ length w
-unfolding with_more
-more_length w i = go (ltb (get_word w i) 4294967295)
-  where
-    go : (t : Bool) → length {A = ℕ} (elim t as (λ z. List ℕ) [ true ↦ put_word w i (get_word w i + 1) | false ↦ w ]) ≡ length w
-    go true = put_length w i (get_word w i + 1)
-    go false = refl
 
 module _ {Z : Type 0} (P : List ℕ → Z) (field4 : (w : List ℕ) (x v : ℕ) → P (put_field w x 4 v) ≡ P w)
     (counts : (types : ℕ) (w : List ℕ) (h : ℕ) → P (count_raised (class_p types) (count_p types) w h) ≡ P w)
@@ -114,16 +106,16 @@ words_memory f l n2 n15 w x g v q = λ i k. field_other w x g v k f (small q) l 
 apart_1 : (types c j : ℕ) → j * 16 + 1 ≢ count_p types c
 apart_1 types c j e =
     ⊎_elim
-    (λ l. let q : j * 16 + 1 ≡ types * 16 + (c - types) * 8 + 2 = e ∙ sym (place_enum types 6 2 c l) in omega arith)
     (λ l. let q : j * 16 + 1 ≡ c * 16 + 6 = e ∙ sym (place_type types 6 2 c l) in omega arith)
-    (le_or_lt types c)
+    (λ l. let q : j * 16 + 1 ≡ types * 16 + (c - types) * 8 + 2 = e ∙ sym (place_enum types 6 2 c l) in omega arith)
+    (cases_lt c types)
 
 apart_13 : (types c j : ℕ) → j * 16 + 13 ≢ count_p types c
 apart_13 types c j e =
     ⊎_elim
-    (λ l. let q : j * 16 + 13 ≡ types * 16 + (c - types) * 8 + 2 = e ∙ sym (place_enum types 6 2 c l) in omega arith)
     (λ l. let q : j * 16 + 13 ≡ c * 16 + 6 = e ∙ sym (place_type types 6 2 c l) in omega arith)
-    (le_or_lt types c)
+    (λ l. let q : j * 16 + 13 ≡ types * 16 + (c - types) * 8 + 2 = e ∙ sym (place_enum types 6 2 c l) in omega arith)
+    (cases_lt c types)
 
 -- ---- a line
 pub data Line (m : Sheet) : Out Sheet → Type 0 where
@@ -139,25 +131,19 @@ code_fine c (inr (inl e)) f = omega arith
 code_fine c (inr (inr (inl e))) f = omega arith
 code_fine c (inr (inr (inr e))) f = omega arith
 
-place_length : (t : List ℕ) (at : ℕ) (a : List ℕ) → at + length a ≤ length t → length (place t at a) ≡ length t
-place_length t at a h =
-    let l : at ≤ length t = omega arith in
-    let e : length (take at t ++ a) ≡ at + length a = length-append (take at t) a ∙ ap (λ (k : ℕ). k + length a) (length-take-le at t l) in
-    length-append (take at t ++ a) (drop (at + length a) t) ∙ omega (arith, e, length-drop (at + length a) t)
-
 module _ (m : Sheet) (inside : m.at ≤ length m.text) (u : List ℕ) (long : length u ≡ length m.work) (one : words 1 u ≡ words 1 m.work) (state : words 13 u ≡ words 13 m.work) where
   put_line : (x : Text) → Told x → Line m (sheet_of m.len (with_names u (put_text m.text (Ok m.at) x)))
   unfolding sheet_of with_names written bytes
   put_line _ (told a) =
       ⊎_elim
-      (λ l. subst (λ (o : TextOut). Line m (sheet_of m.len (with_names u o))) (sym (put_fits m.text m.at (whole a) l)) (lined long one state (omega (arith, place_length m.text m.at a (omega arith)))))
       (λ l. subst (λ (o : TextOut). Line m (sheet_of m.len (with_names u o))) (sym (put_none m.text m.at (whole a) l)) (unlined 17_fine))
-      (le_or_lt (length a) (length m.text - m.at))
+      (λ l. subst (λ (o : TextOut). Line m (sheet_of m.len (with_names u o))) (sym (put_fits m.text m.at (whole a) l)) (lined long one state (omega (arith, place_length m.text m.at a (omega arith)))))
+      (cases_lt (length m.text - m.at) (length a))
   put_line _ (cut_by a c q) =
       ⊎_elim
-      (λ l. subst (λ (o : TextOut). Line m (sheet_of m.len (with_names u o))) (sym (put_fits m.text m.at (cut a c) l)) (unlined (code_fine c q)))
       (λ l. subst (λ (o : TextOut). Line m (sheet_of m.len (with_names u o))) (sym (put_none m.text m.at (cut a c) l)) (unlined 17_fine))
-      (le_or_lt (length a) (length m.text - m.at))
+      (λ l. subst (λ (o : TextOut). Line m (sheet_of m.len (with_names u o))) (sym (put_fits m.text m.at (cut a c) l)) (unlined (code_fine c q)))
+      (cases_lt (length m.text - m.at) (length a))
 
 line_holds : (v : Writer (List ℕ)) → Keeps length v → Keeps (words 1) v → Keeps (words 13) v → Tells v → (m : Sheet) → m.at ≤ length m.text → Line m (line_in v m)
 unfolding line_in put_said said_names said_text
@@ -183,7 +169,7 @@ module _ (b : TypeTable) (B : Rules) (m : Sheet) (inside : m.at ≤ length m.tex
       (definition_tells b B x (B.type_by_id x)) m inside
 
 -- ---- the emptied list
-emptied_length : (n : ℕ) (w : List ℕ) → length (emptied n w) ≡ length w
+pub emptied_length : (n : ℕ) (w : List ℕ) → length (emptied n w) ≡ length w
 unfolding emptied
 emptied_length zero w = refl
 emptied_length (suc n) w = put_length (emptied n w) (n * 16 + 11) 0 ∙ emptied_length n w
@@ -199,12 +185,6 @@ emptied_13 zero w k = refl
 emptied_13 (suc n) w k = field_other (emptied n w) n 11 0 k 13 (omega arith) (omega arith) (λ e. omega arith) ∙ emptied_13 n w k
 
 -- ---- the machine
-mark_code : (k : Mark) → mark_of (code k) ≡ k
-unfolding mark_of
-mark_code new = refl
-mark_code busy = refl
-mark_code done = refl
-
 module _ (n : ℕ) where
   pub record Fit (m : Tagged) : Type 0 where
     pub long : 64 * n ≤ length m.sheet.work

@@ -8,7 +8,7 @@ use mathlib.Core.Logic.{⊎_elim}
 use native.Mathlib.Omega.{arith}
 use lib.ListN.{length, take}
 use lib.Dec.{ltb}
-use Rattle.spec_bytes.proofs.words.Laws.{le_or_lt}
+use Rattle.std.proofs.lemmas.Bool.{cases_lt}
 use Rattle.spec_type_table.specs.declared.types.TypeTable.{TypeTable}
 use Rattle.spec_session.specs.metered.Metered.{calls_in}
 use Rattle.spec_session.specs.declared.session.Session.{Session}
@@ -47,7 +47,7 @@ module _ (c c' : ℕ) (l : c ≤ c') where
 
   module _ (b : TypeTable) (s : List ℕ) where
     pub one_fits : (id len v : ℕ) (w t : List ℕ) (k : ℕ) → Fine (requested_within c b s id len v w t k).reach → k + calls_in b s w id ≤ c
-    one_fits id len v w t k n = ⊎_elim (λ i. i) (λ i. absurd (n len v (take len t) (ap (λ (a : Within). a.reach) (request_over c b s id len v w t k i)))) (le_or_lt (k + calls_in b s w id) c)
+    one_fits id len v w t k n = ⊎_elim (λ i. absurd (n len v (take len t) (ap (λ (a : Within). a.reach) (request_over c b s id len v w t k i)))) (λ i. i) (cases_lt c (k + calls_in b s w id))
 
     first_fine : (F : ℕ → List ℕ → List ℕ → ℕ → Within) (a : Within) → Fine (onward_within a.reach a.made F).reach → Fine a.reach
     unfolding onward_within

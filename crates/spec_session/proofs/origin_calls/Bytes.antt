@@ -7,7 +7,7 @@ use mathlib.Core.Logic.{⊎_elim}
 use native.Mathlib.Omega.{arith}
 use lib.ListN.{length}
 use lib.Dec.{ltb}
-use Rattle.spec_bytes.proofs.words.Laws.{le_or_lt}
+use Rattle.std.proofs.lemmas.Bool.{cases_lt}
 use Rattle.spec_c_dumper.specs.rules.Order.{Table, Res, ok, refused}
 use Rattle.spec_c_dumper.specs.rules.Machine.{Out, wrote, stuck, Machine, eeach, emit}
 use Rattle.spec_c_dumper.specs.rules.Types.{table_of}
@@ -144,8 +144,8 @@ module _ (b : TypeTable) (s : List ℕ) where
           held = subst (λ (v : Reached). length v.entries ≤ q.need) (sym (goes always u refl len w t e)) q.held;
           fits = λ c l. goes (up_to c) u (h.fits c (omega arith)) len w t e ∙ q.fits c l ∙ sym (goes always u refl len w t e);
           short = λ c l z. ⊎_elim
-              (λ f. subst (λ (v : Reached). Short v.reach) (sym (goes (up_to c) u (h.fits c f) len w t e)) (q.short c (omega arith) z))
-              (λ f. short_stops (up_to c) (h.short c l f)) (le_or_lt h.need c);
+              (λ f. short_stops (up_to c) (h.short c l f))
+              (λ f. subst (λ (v : Reached). Short v.reach) (sym (goes (up_to c) u (h.fits c f) len w t e)) (q.short c (omega arith) z)) (cases_lt c h.need);
           counts = λ len' w' t' z. ap (λ (v : Reached). length v.entries) (goes always u refl len w t e) ∙ q.counts len' w' t' (sym (ap (λ (v : Reached). v.reach) (goes always u refl len w t e)) ∙ z);
         }
     by (refused_by d len i t) e = record {

@@ -8,7 +8,7 @@ use native.Mathlib.Omega.{arith}
 use lib.Dec.{ltb}
 use lib.ListN.{length, length-append}
 use borrow.Author.Tests.{lt-ltb, le-ltb}
-use Rattle.spec_bytes.proofs.words.Laws.{le_or_lt}
+use Rattle.std.proofs.lemmas.Bool.{cases_lt}
 use Rattle.spec_c_dumper.specs.rules.Order.{Node, ignored, plain, listed, through, ptr, tdef, proto, comp, Table, Mark, new, busy, done, Res, ok, refused, fresh, visit}
 use Rattle.spec_c_dumper.specs.rules.Machine.{Out, wrote, stuck, Machine, obind, eeach}
 use Rattle.spec_c_dumper.specs.rules.Types.{Btf as Rules, table_of}
@@ -17,12 +17,11 @@ use Rattle.spec_type_table.specs.Cells.{get_field}
 use Rattle.spec_type_table.specs.Table.{from, btf_of}
 use Rattle.c_dumper_dependency_order.specs.order_state.Work.{mark_of, work_store}
 use Rattle.spec_session.specs.emission.Sheet.{Sheet, sheet_store, emptied, work_machine, is_ignored, is_idle}
-use Rattle.spec_c_dumper.proofs.rules.Maps.{omap, MachineMap}
+use Rattle.spec_c_dumper.proofs.rules.Maps.{omap, MachineMap, map_obind, map_eeach, map_look}
 use Rattle.spec_session.specs.calls.Calls.{came_to, lent_to}
 use Rattle.spec_c_dumper.specs.origins.Causes.{Entry, entry, Led, led_store, inside, is_around, order_led, listed_entry, Noted, with_entries, up_to, line, cause_at, noting, emit_noted, each_listed, shows_in}
 use Rattle.spec_c_dumper.specs.origins.Claims.{forget}
 use Rattle.spec_session.specs.origin_calls.Bytes.{listed_noted, dumped_noted, Reached as Came, entries_after, came_to_noted, requested_noted}
-use Rattle.spec_session.proofs.origins_after.Maps.{map_obind, map_eeach, map_look}
 
 module _ {M : Type 0} (X : Machine M) (T : Table) (shows : ℕ → Bool) (room : ℕ) (es : List Entry) where
   abbrev after : Noted M → Noted M
@@ -32,7 +31,7 @@ module _ {M : Type 0} (X : Machine M) (T : Table) (shows : ℕ → Bool) (room :
   left = room - length es
 
   more_same : (j : ℕ) → ltb (length es + j) room ≡ ltb j left
-  more_same j = ⊎_elim (λ h. le-ltb (length es + j) room h ∙ sym (le-ltb j left (omega arith))) (λ h. lt-ltb (length es + j) room h ∙ sym (lt-ltb j left (omega arith))) (le_or_lt room (length es + j))
+  more_same j = ⊎_elim (λ h. lt-ltb (length es + j) room h ∙ sym (lt-ltb j left (omega arith))) (λ h. le-ltb (length es + j) room h ∙ sym (le-ltb j left (omega arith))) (cases_lt (length es + j) room)
 
   said_shift : (fs : List Entry) (o : Out M) → with_entries (es ++ fs) o ≡ omap after (with_entries fs o)
   unfolding with_entries

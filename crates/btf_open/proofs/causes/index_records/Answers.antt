@@ -12,16 +12,16 @@ pub returns-in_err-counts : goal.returns-in_err-counts
 returns-in_err-counts c =
     let p = err_from_is_err_and c.from_residual-in_err-counts.result c.from_residual-in_err-counts.ensures.1 in
     let k = scan_none _ _ _ c.ok_or.ensures.value c.in_err-counts.was in
-    rw (p.1, p.2, k.1) (says_refused _ _ _ (index_5 _ _ _ c.in_ok-section_cause.ensures refl _ c.btf_of-head.ensures _ _ _ c.requires c.scan.ensures k.0))
+    rw (p.1, p.2, k.1) (says_refused _ _ _ (index_5 _ _ _ c.in_ok-section_cause.ensures refl _ c.btf_of-head.ensures _ _ _ c.clear_index.ensures c.scan.ensures k.0))
 
 pub returns-then-has_bad_reference : goal.returns-then-has_bad_reference
 returns-then-has_bad_reference c =
     let k = scan_some _ _ _ c.ok_or.ensures.value c.in_ok-counts.was in
     says_refused _ _ _
-    (index_6 _ _ _ c.in_ok-section_cause.ensures refl _ c.btf_of-head.ensures _ _ _ c.requires c.scan.ensures _ k _ c.btf_of-head-2.ensures _ c.has_bad_reference.ensures c.if-has_bad_reference.true)
+    (index_6 _ _ _ c.in_ok-section_cause.ensures refl _ c.btf_of-head.ensures _ _ _ c.clear_index.ensures c.scan.ensures _ k _ c.btf_of-head-2.ensures _ c.has_bad_reference.ensures c.if-has_bad_reference.true)
 
 pub returns : goal.returns
 returns c =
     let k = scan_some _ _ _ c.ok_or.ensures.value c.in_ok-counts.was in
     says_sound _ _ _
-    (index_0 _ _ _ c.in_ok-section_cause.ensures refl _ c.btf_of-head.ensures _ _ _ c.requires c.scan.ensures _ k _ c.btf_of-head-2.ensures _ c.has_bad_reference.ensures c.if-has_bad_reference.false)
+    (index_0 _ _ _ c.in_ok-section_cause.ensures refl _ c.btf_of-head.ensures _ _ _ c.clear_index.ensures c.scan.ensures _ k _ c.btf_of-head-2.ensures _ c.has_bad_reference.ensures c.if-has_bad_reference.false)

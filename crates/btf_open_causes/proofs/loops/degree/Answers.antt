@@ -2,7 +2,7 @@ use Prim.Native.Nat.{◌%◌}
 use native.Mathlib.Omega.{arith}
 use mathlib.Core.Path.{◌≡◌}
 use mathlib.Core.Logic.{⊎_elim, inl, inr}
-use Rattle.spec_bytes.proofs.words.Laws.{le_or_lt}
+use Rattle.std.proofs.lemmas.Bool.{cases_lt}
 use Rattle.spec_type_table.specs.declared.kind.Kind.TheVariants.{Struct, Union}
 use Rattle.spec_type_table.proofs.KindNames.{is, isnt}
 use Rattle.btf_open_causes.proofs.loops.TypeLoops.{deg_composite, deg_other}
@@ -16,4 +16,4 @@ pub returns-in_default : goal.returns-in_default
 returns-in_default c =
     let n4 : (c.args.e.word % 32) ≡ 4 → ⊥ = isnt _ _ c.kind.ensures Struct c.in_default.not-Struct in
     let n5 : (c.args.e.word % 32) ≡ 5 → ⊥ = isnt _ _ c.kind.ensures Union c.in_default.not-Union in
-    deg_other _ _ _ _ (⊎_elim (λ l. inr l) (λ l. inl (omega arith)) (le_or_lt 6 (c.args.e.word % 32))) _ c.count_at.ensures
+    deg_other _ _ _ _ (⊎_elim (λ l. inl (omega arith)) (λ l. inr l) (cases_lt (c.args.e.word % 32) 6)) _ c.count_at.ensures

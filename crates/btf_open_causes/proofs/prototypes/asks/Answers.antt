@@ -2,7 +2,7 @@ use Prim.Native.Nat.{◌%◌}
 use native.Mathlib.Omega.{arith}
 use mathlib.Core.Path.{◌≡◌}
 use mathlib.Core.Logic.{⊎_elim, inl, inr}
-use Rattle.spec_bytes.proofs.words.Laws.{le_or_lt}
+use Rattle.std.proofs.lemmas.Bool.{cases_lt}
 use Rattle.spec_type_table.specs.declared.kind.Kind.TheVariants.{Array, Struct, Union}
 use Rattle.spec_type_table.proofs.KindNames.{is, isnt}
 use Rattle.btf_open_causes.proofs.prototypes.Held.{asks_inside, asks_none}
@@ -17,4 +17,4 @@ returns-in_default c =
     let n3 : (c.args.e.word % 32) ≡ 3 → ⊥ = isnt _ _ c.kind.ensures Array c.in_default.not-Array in
     let n4 : (c.args.e.word % 32) ≡ 4 → ⊥ = isnt _ _ c.kind.ensures Struct c.in_default.not-Struct in
     let n5 : (c.args.e.word % 32) ≡ 5 → ⊥ = isnt _ _ c.kind.ensures Union c.in_default.not-Union in
-    asks_none _ _ _ _ (⊎_elim (λ l. inr l) (λ l. inl (omega arith)) (le_or_lt 6 (c.args.e.word % 32)))
+    asks_none _ _ _ _ (⊎_elim (λ l. inl (omega arith)) (λ l. inr l) (cases_lt (c.args.e.word % 32) 6))

@@ -2,7 +2,7 @@ use native.Mathlib.Omega.{arith}
 use mathlib.Core.Path.{◌≡◌, refl}
 use Rattle.btf_open_causes.specs.references.Followed.{kind_at}
 use mathlib.Core.Logic.{⊎_elim, inl, inr}
-use Rattle.spec_bytes.proofs.words.Laws.{le_or_lt}
+use Rattle.std.proofs.lemmas.Bool.{cases_lt}
 use Rattle.spec_type_table.specs.declared.kind.Kind.TheVariants.{Array, Typedef, Volatile, Const, Restrict, TypeTag, FuncProto}
 use Rattle.spec_type_table.proofs.KindNames.{is, isnt}
 use Rattle.std.proofs.Common.{sym}
@@ -27,4 +27,4 @@ returns-in_default c =
     let n11 : kind_at c.args.i.now.table.head c.args.i.now.start.now c.args.x ≡ 11 → ⊥ = isnt _ _ c.kind_at.ensures Restrict c.in_default.not-Restrict in
     let n18 : kind_at c.args.i.now.table.head c.args.i.now.start.now c.args.x ≡ 18 → ⊥ = isnt _ _ c.kind_at.ensures TypeTag c.in_default.not-TypeTag in
     let n13 : kind_at c.args.i.now.table.head c.args.i.now.start.now c.args.x ≡ 13 → ⊥ = isnt _ _ c.kind_at.ensures FuncProto c.in_default.not-FuncProto in
-    says_no _ (what_none _ _ _ _ refl (λ o. ⊎_elim n3 n18 o) n13 (⊎_elim (λ l. inr l) (λ l. inl (omega arith)) (le_or_lt 12 (kind_at c.args.i.now.table.head c.args.i.now.start.now c.args.x))))
+    says_no _ (what_none _ _ _ _ refl (λ o. ⊎_elim n3 n18 o) n13 (⊎_elim (λ l. inl (omega arith)) (λ l. inr l) (cases_lt (kind_at c.args.i.now.table.head c.args.i.now.start.now c.args.x) 12)))

@@ -1,7 +1,7 @@
 use native.Mathlib.Omega.{arith}
 use mathlib.Core.Path.{◌≡◌}
 use mathlib.Core.Logic.{⊎_elim, inl, inr}
-use Rattle.spec_bytes.proofs.words.Laws.{le_or_lt}
+use Rattle.std.proofs.lemmas.Bool.{cases_lt}
 use Rattle.spec_type_table.specs.declared.kind.Kind.TheVariants.{Struct, Union, Enum64, Enum, FuncProto}
 use Rattle.spec_type_table.proofs.KindNames.{is, isnt}
 use Rattle.spec_type_table.specs.Records.{kind_of}
@@ -23,4 +23,4 @@ returns-in_default c =
     let n19 : kind_of c.args.info ≡ 19 → ⊥ = isnt _ _ c.of.ensures Enum64 c.in_default.not-Enum64 in
     let n6 : kind_of c.args.info ≡ 6 → ⊥ = isnt _ _ c.of.ensures Enum c.in_default.not-Enum in
     let n13 : kind_of c.args.info ≡ 13 → ⊥ = isnt _ _ c.of.ensures FuncProto c.in_default.not-FuncProto in
-    ⊎_elim (λ l. width_high _ (omega arith) (λ o. ⊎_elim n6 n13 o) n19) (λ l. width_low _ (omega arith)) (le_or_lt 6 (kind_of c.args.info))
+    ⊎_elim (λ l. width_low _ (omega arith)) (λ l. width_high _ (omega arith) (λ o. ⊎_elim n6 n13 o) n19) (cases_lt (kind_of c.args.info) 6)

@@ -1,8 +1,7 @@
 use native.Mathlib.Omega.{arith}
 use mathlib.Core.Path.{refl, ap, ◌∙◌}
 use Rattle.spec_type_table.specs.Cells.{put_field}
-use Prim.Native.Nat.{◌-◌}
-use Rattle.btf_open_names.proofs.filled_work.Filled.{places_none, places_more, places_all}
+use Rattle.btf_open_names.proofs.filled_work.Filled.{places_none, places_more}
 use Rattle.std.proofs.Common.{rules}
 use Rattle.btf_open_names.proofs.fill.fill_places.Goals as goal
 
@@ -11,6 +10,3 @@ loop-x-init c = (places_none _ _, omega arith, refl)
 
 pub loop-x-preserved : goal.loop-x-preserved
 loop-x-preserved c = (places_more _ _ _ c.loop-x.x c.loop-x.invariant.0 c.loop-x.auto.x _ c.entry_of.ensures _ (c.put_field.ensures ∙ ap (put_field _ _ 0) c.place.ensures), omega arith, search rules)
-
-pub returns : goal.returns
-returns c = places_all _ _ _ (c.loop-x.x - 1) _ c.loop-x.invariant.0 (omega arith)

@@ -3,21 +3,15 @@ use mathlib.Core.Path.{refl, ◌∙◌, sym}
 use Rattle.spec_c_dumper.proofs.rules.Writing.{put_only, said_past, said_ended}
 use Rattle.c_dumper_declarator.proofs.declarations.Kept.{leads_start, halted}
 use Rattle.c_dumper_declarator.proofs.declarations.DeclLaws as chains
-use Rattle.c_dumper_declarator.proofs.declarations.DeclLaws.{chain_left}
 use Rattle.c_dumper_declarator.proofs.declarations.EntryLaws as entries
 use Rattle.c_dumper_declarator.proofs.declarations.MemberLaws as members
-use Rattle.c_dumper_declarator.proofs.declarations.MemberLaws.{params_left, members_left}
 use Rattle.spec_bytes.specs.text.Text.{whole}
 use Rattle.spec_bytes.proofs.text.TextLaws.{put_past, put_ended}
-use Rattle.c_dumper_bodies.specs.chain.Chains.{chain_at}
 use native.Mathlib.Omega.{arith}
 use Rattle.c_dumper_declarator.proofs.declarations.+declarator.Goals as goal
 
 pub emit_array-returns-then-c-eq0 : goal.emit_array-returns-then-c-eq0
 emit_array-returns-then-c-eq0 t c = entries.array_name _ _ _ _ _ _ _ _ _ _ _ _ _ c.if-c-eq0.true c.emit_name.ensures
-
-pub emit_array-emit_type_chain-requires : goal.emit_array-emit_type_chain-requires
-emit_array-emit_type_chain-requires t c = (omega arith, c.requires)
 
 pub emit_array-returns-in-Array : goal.emit_array-returns-in-Array
 emit_array-returns-in-Array t c = entries.array_array _ _ _ _ _ _ _ _ _ _ _ c.if-c-eq0.false _ _ _ _ _ _ c.kind_at.ensures c.in-Array.is c.in_ok-a.ensures c.emit_type_chain.ensures
@@ -44,7 +38,7 @@ pub emit_base-returns-in-Enum : goal.emit_base-returns-in-Enum
 emit_base-returns-in-Enum t c = entries.word_enum _ _ _ _ _ _ _ _ c.of.ensures _ _ _ _ _ _ c.in-Enum.is c.emit_enum_word.ensures
 
 pub emit_base-returns-in-Fwd : goal.emit_base-returns-in-Fwd
-emit_base-returns-in-Fwd t c = entries.word_fwd _ _ _ _ _ _ _ _ c.of.ensures _ _ _ _ _ _ _ c.in-Fwd.is c.kind_flag_of-is_union.ensures c.emit_fwd_def.ensures
+emit_base-returns-in-Fwd t c = entries.word_fwd _ _ _ _ _ _ _ _ c.of.ensures _ _ _ _ _ _ c.in-Fwd.is c.emit_fwd_def.ensures
 
 pub emit_base-returns-in-Typedef : goal.emit_base-returns-in-Typedef
 emit_base-returns-in-Typedef t c = entries.word_typedef _ _ _ _ _ _ _ _ c.of.ensures _ _ _ _ _ _ c.in-Typedef.is c.put_typedef_name.ensures
@@ -77,22 +71,19 @@ pub emit_composite_word-returns-then-is_empty : goal.emit_composite_word-returns
 emit_composite_word-returns-then-is_empty t c = entries.composite_inline _ c.args.b.now.section.now _ _ _ _ _ _ _ _ _ _ _ _ _ _ (sym c.is_empty.ensures ∙ c.if-is_empty.true) c.emit_composite_def.ensures
 
 pub emit_composite_word-returns : goal.emit_composite_word-returns
-emit_composite_word-returns t c = entries.composite_named _ c.args.b.now.section.now _ _ _ _ _ _ _ _ _ _ _ _ _ _ _ (sym c.is_empty.ensures ∙ c.if-is_empty.false) c.is_struct.ensures c.emit_composite_fwd.ensures
+emit_composite_word-returns t c = entries.composite_named _ c.args.b.now.section.now _ _ _ _ _ _ _ _ _ _ _ _ _ _ (sym c.is_empty.ensures ∙ c.if-is_empty.false) c.emit_composite_fwd.ensures
 
 pub emit_entry-emit_array-requires : goal.emit_entry-emit_array-requires
 emit_entry-emit_array-requires t c = (omega arith, entries.links_rest _ _ _ _ _ _ c.requires.0 c.skip_mods-m.ensures.0 c.requires.1)
 
-pub emit_entry-emit_function-requires : goal.emit_entry-emit_function-requires
-emit_entry-emit_function-requires t c = (omega arith, c.requires)
-
 pub emit_entry-returns-in_ok-a-in-Ptr : goal.emit_entry-returns-in_ok-a-in-Ptr
-emit_entry-returns-in_ok-a-in-Ptr t c = entries.arm_star _ _ _ _ _ _ _ c.args.c _ _ c.requires.0 _ c.path_at.ensures _ c.type_by_id-t.ensures _ c.of-kind.ensures _ _ _ c.in-Ptr.is (entries.says_star _ _ _ _ _ _ _ c.args.c _ _ c.requires.0 _ c.path_at.ensures _ c.type_by_id-t.ensures _ c.of-kind.ensures _ _ c.in-Ptr.is c.in_ok-a-in-Ptr.ensures) c.goes_on.ensures
+emit_entry-returns-in_ok-a-in-Ptr t c = entries.arm_star _ _ _ _ _ _ _ c.args.c _ _ c.requires.0 _ c.path_at.ensures _ c.type_by_id-t.ensures _ c.of-kind.ensures _ _ _ c.in-Ptr.is c.in_ok-a-in-Ptr.ensures c.goes_on.ensures
 
 pub emit_entry-returns-in_err-a-in-Ptr : goal.emit_entry-returns-in_err-a-in-Ptr
 emit_entry-returns-in_err-a-in-Ptr t c = halted _ _ _ _ _ _ _ _ _ (entries.says_star _ _ _ _ _ _ _ c.args.c _ _ c.requires.0 _ c.path_at.ensures _ c.type_by_id-t.ensures _ c.of-kind.ensures _ _ c.in-Ptr.is c.in_err-a-in-Ptr.ensures) c.from_residual.ensures.1
 
 pub emit_entry-returns-in_ok-e-in-Array : goal.emit_entry-returns-in_ok-e-in-Array
-emit_entry-returns-in_ok-e-in-Array t c = entries.arm_array _ _ _ _ _ _ _ c.args.c _ _ c.requires.0 _ c.path_at.ensures _ c.type_by_id-t.ensures _ c.of-kind.ensures _ _ _ _ c.in-Array.is (entries.says_array _ _ _ _ _ _ _ c.args.c _ _ c.requires.0 _ c.path_at.ensures _ c.type_by_id-t.ensures _ c.of-kind.ensures _ _ _ _ _ _ _ c.in-Array.is c.array_nelems-nelems.ensures c.skip_mods-m.ensures.0 c.in_ok-a-in-Array.ensures c.in_ok-e-in-Array.ensures) c.named.ensures
+emit_entry-returns-in_ok-e-in-Array t c = entries.arm_array _ _ _ _ _ _ _ c.args.c _ _ c.requires.0 _ c.path_at.ensures _ c.type_by_id-t.ensures _ c.of-kind.ensures _ _ _ _ _ _ _ _ c.in-Array.is c.array_nelems-nelems.ensures c.skip_mods-m.ensures.0 c.in_ok-a-in-Array.ensures c.in_ok-e-in-Array.ensures c.named.ensures
 
 pub emit_entry-returns-in_err-a-in-Array : goal.emit_entry-returns-in_err-a-in-Array
 emit_entry-returns-in_err-a-in-Array t c = halted _ _ _ _ _ _ _ _ _ (entries.says_array _ _ _ _ _ _ _ c.args.c _ _ c.requires.0 _ c.path_at.ensures _ c.type_by_id-t.ensures _ c.of-kind.ensures _ _ _ _ _ _ _ c.in-Array.is c.array_nelems-nelems.ensures c.skip_mods-m.ensures.0 c.in_err-a-in-Array.ensures (put_past _ _ (whole _))) c.from_residual-in_err-a-in-Array.ensures.1
@@ -101,13 +92,13 @@ pub emit_entry-returns-in_err-e-in-Array : goal.emit_entry-returns-in_err-e-in-A
 emit_entry-returns-in_err-e-in-Array t c = halted _ _ _ _ _ _ _ _ _ (entries.says_array _ _ _ _ _ _ _ c.args.c _ _ c.requires.0 _ c.path_at.ensures _ c.type_by_id-t.ensures _ c.of-kind.ensures _ _ _ _ _ _ _ c.in-Array.is c.array_nelems-nelems.ensures c.skip_mods-m.ensures.0 c.in_ok-a-in-Array.ensures c.in_err-e-in-Array.ensures) c.from_residual-in_err-e-in-Array.ensures.1
 
 pub emit_entry-returns-in_ok-a-in-FuncProto : goal.emit_entry-returns-in_ok-a-in-FuncProto
-emit_entry-returns-in_ok-a-in-FuncProto t c = entries.arm_proto _ _ _ _ _ _ _ c.args.c _ _ c.requires.0 _ c.path_at.ensures _ c.type_by_id-t.ensures _ c.of-kind.ensures _ _ _ _ c.in-FuncProto.is (entries.says_proto _ _ _ _ _ _ _ c.args.c _ _ c.requires.0 _ c.path_at.ensures _ c.type_by_id-t.ensures _ c.of-kind.ensures _ _ _ c.in-FuncProto.is c.in_ok-a-in-FuncProto.ensures) c.named-in-FuncProto.ensures
+emit_entry-returns-in_ok-a-in-FuncProto t c = entries.arm_proto _ _ _ _ _ _ _ c.args.c _ _ c.requires.0 _ c.path_at.ensures _ c.type_by_id-t.ensures _ c.of-kind.ensures _ _ _ _ c.in-FuncProto.is c.in_ok-a-in-FuncProto.ensures c.named-in-FuncProto.ensures
 
 pub emit_entry-returns-in_err-a-in-FuncProto : goal.emit_entry-returns-in_err-a-in-FuncProto
 emit_entry-returns-in_err-a-in-FuncProto t c = halted _ _ _ _ _ _ _ _ _ (entries.says_proto _ _ _ _ _ _ _ c.args.c _ _ c.requires.0 _ c.path_at.ensures _ c.type_by_id-t.ensures _ c.of-kind.ensures _ _ _ c.in-FuncProto.is c.in_err-a-in-FuncProto.ensures) c.from_residual-in_err-a-in-FuncProto.ensures.1
 
 pub emit_entry-returns-in_ok-e-in-Volatile : goal.emit_entry-returns-in_ok-e-in-Volatile
-emit_entry-returns-in_ok-e-in-Volatile t c = entries.arm_qual _ _ _ _ _ _ _ c.args.c _ _ c.requires.0 _ c.path_at.ensures _ c.type_by_id-t.ensures _ c.of-kind.ensures _ _ _ c.in-Volatile.is (entries.says_qual _ _ _ _ _ _ _ c.args.c _ _ c.requires.0 _ c.path_at.ensures _ c.type_by_id-t.ensures _ c.of-kind.ensures _ _ _ _ c.in-Volatile.is c.in_ok-a-in-Volatile.ensures c.in_ok-e-in-Volatile.ensures) c.goes_on-in-Volatile.ensures
+emit_entry-returns-in_ok-e-in-Volatile t c = entries.arm_qual _ _ _ _ _ _ _ c.args.c _ _ c.requires.0 _ c.path_at.ensures _ c.type_by_id-t.ensures _ c.of-kind.ensures _ _ _ _ _ c.in-Volatile.is c.in_ok-a-in-Volatile.ensures c.in_ok-e-in-Volatile.ensures c.goes_on-in-Volatile.ensures
 
 pub emit_entry-returns-in_err-a-in-Volatile : goal.emit_entry-returns-in_err-a-in-Volatile
 emit_entry-returns-in_err-a-in-Volatile t c = halted _ _ _ _ _ _ _ _ _ (entries.says_qual _ _ _ _ _ _ _ c.args.c _ _ c.requires.0 _ c.path_at.ensures _ c.type_by_id-t.ensures _ c.of-kind.ensures _ _ _ _ c.in-Volatile.is c.in_err-a-in-Volatile.ensures (put_past _ _ (whole _))) c.from_residual-in_err-a-in-Volatile.ensures.1
@@ -116,13 +107,13 @@ pub emit_entry-returns-in_err-e-in-Volatile : goal.emit_entry-returns-in_err-e-i
 emit_entry-returns-in_err-e-in-Volatile t c = halted _ _ _ _ _ _ _ _ _ (entries.says_qual _ _ _ _ _ _ _ c.args.c _ _ c.requires.0 _ c.path_at.ensures _ c.type_by_id-t.ensures _ c.of-kind.ensures _ _ _ _ c.in-Volatile.is c.in_ok-a-in-Volatile.ensures c.in_err-e-in-Volatile.ensures) c.from_residual-in_err-e-in-Volatile.ensures.1
 
 pub emit_entry-returns-in_ok-e-in_default : goal.emit_entry-returns-in_ok-e-in_default
-emit_entry-returns-in_ok-e-in_default t c = entries.arm_tag _ _ _ _ _ _ _ c.args.c _ _ c.requires.0 _ c.path_at.ensures _ c.type_by_id-t.ensures _ c.of-kind.ensures _ _ _ _ (entries.is_tag _ _ _ _ _ _ _ _ c.requires.0 c.path_at.ensures c.type_by_id-t.ensures c.of-kind.ensures c.requires.1 c.in_default.not-Ptr c.in_default.not-Array c.in_default.not-Volatile c.in_default.not-Const c.in_default.not-Restrict c.in_default.not-FuncProto) c.skip_mods-m-in_default.ensures.0 c.skip_mods-m-in_default.ensures.1 (entries.says_tag _ _ _ _ _ _ _ c.args.c _ _ c.requires.0 _ c.path_at.ensures _ c.type_by_id-t.ensures _ c.of-kind.ensures _ _ _ _ _ (entries.is_tag _ _ _ _ _ _ _ _ c.requires.0 c.path_at.ensures c.type_by_id-t.ensures c.of-kind.ensures c.requires.1 c.in_default.not-Ptr c.in_default.not-Array c.in_default.not-Volatile c.in_default.not-Const c.in_default.not-Restrict c.in_default.not-FuncProto) c.skip_mods-m-in_default.ensures.0 c.in_ok-a-in_default.ensures c.in_ok-e-in_default.ensures) c.goes_on-in_default.ensures
+emit_entry-returns-in_ok-e-in_default t c = entries.arm_tag _ _ _ _ _ _ _ c.args.c _ _ c.requires.0 _ c.path_at.ensures _ c.type_by_id-t.ensures _ c.of-kind.ensures c.requires.1 c.in_default.not-Ptr c.in_default.not-Array c.in_default.not-Volatile c.in_default.not-Const c.in_default.not-Restrict c.in_default.not-FuncProto _ _ _ _ _ _ c.skip_mods-m-in_default.ensures c.in_ok-a-in_default.ensures c.in_ok-e-in_default.ensures c.goes_on-in_default.ensures
 
 pub emit_entry-returns-in_err-a-in_default : goal.emit_entry-returns-in_err-a-in_default
-emit_entry-returns-in_err-a-in_default t c = halted _ _ _ _ _ _ _ _ _ (entries.says_tag _ _ _ _ _ _ _ c.args.c _ _ c.requires.0 _ c.path_at.ensures _ c.type_by_id-t.ensures _ c.of-kind.ensures _ _ _ _ _ (entries.is_tag _ _ _ _ _ _ _ _ c.requires.0 c.path_at.ensures c.type_by_id-t.ensures c.of-kind.ensures c.requires.1 c.in_default.not-Ptr c.in_default.not-Array c.in_default.not-Volatile c.in_default.not-Const c.in_default.not-Restrict c.in_default.not-FuncProto) c.skip_mods-m-in_default.ensures.0 c.in_err-a-in_default.ensures (put_past _ _ (whole _))) c.from_residual-in_err-a-in_default.ensures.1
+emit_entry-returns-in_err-a-in_default t c = halted _ _ _ _ _ _ _ _ _ (entries.says_tag _ _ _ _ _ _ _ c.args.c _ _ c.requires.0 _ c.path_at.ensures _ c.type_by_id-t.ensures _ c.of-kind.ensures c.requires.1 c.in_default.not-Ptr c.in_default.not-Array c.in_default.not-Volatile c.in_default.not-Const c.in_default.not-Restrict c.in_default.not-FuncProto _ _ _ _ _ c.skip_mods-m-in_default.ensures.0 c.in_err-a-in_default.ensures (put_past _ _ (whole _))) c.from_residual-in_err-a-in_default.ensures.1
 
 pub emit_entry-returns-in_err-e-in_default : goal.emit_entry-returns-in_err-e-in_default
-emit_entry-returns-in_err-e-in_default t c = halted _ _ _ _ _ _ _ _ _ (entries.says_tag _ _ _ _ _ _ _ c.args.c _ _ c.requires.0 _ c.path_at.ensures _ c.type_by_id-t.ensures _ c.of-kind.ensures _ _ _ _ _ (entries.is_tag _ _ _ _ _ _ _ _ c.requires.0 c.path_at.ensures c.type_by_id-t.ensures c.of-kind.ensures c.requires.1 c.in_default.not-Ptr c.in_default.not-Array c.in_default.not-Volatile c.in_default.not-Const c.in_default.not-Restrict c.in_default.not-FuncProto) c.skip_mods-m-in_default.ensures.0 c.in_ok-a-in_default.ensures c.in_err-e-in_default.ensures) c.from_residual-in_err-e-in_default.ensures.1
+emit_entry-returns-in_err-e-in_default t c = halted _ _ _ _ _ _ _ _ _ (entries.says_tag _ _ _ _ _ _ _ c.args.c _ _ c.requires.0 _ c.path_at.ensures _ c.type_by_id-t.ensures _ c.of-kind.ensures c.requires.1 c.in_default.not-Ptr c.in_default.not-Array c.in_default.not-Volatile c.in_default.not-Const c.in_default.not-Restrict c.in_default.not-FuncProto _ _ _ _ _ c.skip_mods-m-in_default.ensures.0 c.in_ok-a-in_default.ensures c.in_err-e-in_default.ensures) c.from_residual-in_err-e-in_default.ensures.1
 
 pub emit_function-emit_proto-requires : goal.emit_function-emit_proto-requires
 emit_function-emit_proto-requires t c = (omega arith, entries.links_rest _ _ _ _ _ _ c.requires.0 c.skip_mods-m.ensures.0 c.requires.1)
@@ -139,14 +130,8 @@ emit_function-returns-in_err-f t c = entries.function_put _ _ _ _ _ _ _ _ _ _ _ 
 pub emit_links-loop-rest-init : goal.emit_links-loop-rest-init
 emit_links-loop-rest-init t c = (leads_start _ _ _ _ _, c.requires)
 
-pub emit_links-emit_entry-requires : goal.emit_links-emit_entry-requires
-emit_links-emit_entry-requires t c = (omega arith, (c.loop-rest-test.true, c.loop-rest.invariant.1))
-
 pub emit_links-returns-in_err-e : goal.emit_links-returns-in_err-e
 emit_links-returns-in_err-e t c = chains.links_whole _ _ _ _ _ _ _ _ _ _ _ _ _ _ (chains.chain_stops _ _ _ _ _ _ _ _ _ _ _ _ _ _ _ _ _ c.loop-rest-test.true c.loop-rest.invariant.0 c.in_err-e.ensures c.from_residual.ensures.1)
-
-pub emit_links-loop-rest-smaller : goal.emit_links-loop-rest-smaller
-emit_links-loop-rest-smaller t c = let h = chains.rest_below c.args.b.now.head c.args.b.now.section.now (chain_at c.args.b.now.head c.args.b.now.section.now c.loop-rest.work c.args.d.id) _ _ _ c.in-Some.is c.in_ok-e.ensures.1 in omega arith
 
 pub emit_links-loop-rest-preserved : goal.emit_links-loop-rest-preserved
 emit_links-loop-rest-preserved t c = (chains.chain_again _ _ _ _ _ _ _ _ _ _ _ _ _ _ _ _ _ c.in-Some.is c.loop-rest-test.true c.loop-rest.invariant.0 c.in_ok-e.ensures, chains.chain_links _ _ _ _ _ _ _ _ _ _ _ _ _ _ c.in-Some.is c.in_ok-e.ensures c.loop-rest.invariant.1)
@@ -184,9 +169,6 @@ emit_params-returns-in_err-p-2 t c = members.params_whole _ _ _ _ _ _ _ _ _ _ _ 
 pub emit_proto-returns-then-c-eq0 : goal.emit_proto-returns-then-c-eq0
 emit_proto-returns-then-c-eq0 t c = entries.proto_name _ _ _ _ _ _ _ _ _ _ _ _ _ c.if-c-eq0.true c.emit_name.ensures
 
-pub emit_proto-emit_type_chain-requires : goal.emit_proto-emit_type_chain-requires
-emit_proto-emit_type_chain-requires t c = (omega arith, c.requires)
-
 pub emit_proto-returns : goal.emit_proto-returns
 emit_proto-returns t c = entries.proto_some _ _ _ _ _ _ _ _ _ _ _ c.if-c-eq0.false _ _ _ _ _ _ _ c.in_ok-a.ensures c.in_ok-e.ensures c.put_byte.ensures
 
@@ -198,9 +180,6 @@ emit_proto-returns-in_err-e t c = entries.proto_some _ _ _ _ _ _ _ _ _ _ _ c.if-
 
 pub emit_type_chain-returns-then-left-eq0 : goal.emit_type_chain-returns-then-left-eq0
 emit_type_chain-returns-then-left-eq0 t c = chains.chain_zero _ _ _ _ _ _ _ _ _ c.if-left-eq0.true
-
-pub emit_type_chain-emit_links-requires : goal.emit_type_chain-emit_links-requires
-emit_type_chain-emit_links-requires t c = (omega arith, c.requires)
 
 pub emit_type_chain-returns : goal.emit_type_chain-returns
 emit_type_chain-returns t c = chains.chain_whole _ _ _ _ _ _ _ _ _ _ _ _ _ c.if-left-eq0.false c.emit_links.ensures

@@ -7,10 +7,10 @@ pub returns-then-is_builtin : goal.returns-then-is_builtin
 returns-then-is_builtin c = lines.forward_builtin _ _ _ _ _ _ _ _ _ refl _ c.is_builtin.ensures c.if-is_builtin.true
 
 pub returns-in_ok-a-in-Struct : goal.returns-in_ok-a-in-Struct
-returns-in_ok-a-in-Struct c = lines.forward_composite _ _ _ _ _ _ _ _ _ c.of.ensures _ c.is_builtin.ensures c.if-is_builtin.false c.in-Struct.is _ c.is_struct.ensures _ _ _ c.in_ok-a-in-Struct.ensures _ _ c.put_line_end.ensures
+returns-in_ok-a-in-Struct c = lines.forward_composite _ _ _ _ _ _ _ _ _ c.of.ensures _ c.is_builtin.ensures c.if-is_builtin.false c.in-Struct.is _ _ _ c.in_ok-a-in-Struct.ensures _ _ c.put_line_end.ensures
 
 pub returns-in_err-a-in-Struct : goal.returns-in_err-a-in-Struct
-returns-in_err-a-in-Struct c = lines.forward_composite _ _ _ _ _ _ _ _ _ c.of.ensures _ c.is_builtin.ensures c.if-is_builtin.false c.in-Struct.is _ c.is_struct.ensures _ _ _ c.in_err-a-in-Struct.ensures _ _ (put_ended _ _ _ _ c.from_residual.ensures.1)
+returns-in_err-a-in-Struct c = lines.forward_composite _ _ _ _ _ _ _ _ _ c.of.ensures _ c.is_builtin.ensures c.if-is_builtin.false c.in-Struct.is _ _ _ c.in_err-a-in-Struct.ensures _ _ (put_ended _ _ _ _ c.from_residual.ensures.1)
 
 pub returns-in_ok-a-in-Typedef : goal.returns-in_ok-a-in-Typedef
 returns-in_ok-a-in-Typedef c = lines.forward_typedef _ _ _ _ _ _ _ _ _ c.of.ensures _ c.is_builtin.ensures c.if-is_builtin.false c.in-Typedef.is _ _ _ c.in_ok-a-in-Typedef.ensures _ _ c.put_line_end-in-Typedef.ensures

@@ -1,4 +1,3 @@
-use native.Mathlib.Omega.{arith}
 use Rattle.spec_session.proofs.emission.Emptied as laws
 use Rattle.c_dumper_emit.proofs.order_list.clear_list.Goals as goal
 
@@ -7,6 +6,3 @@ loop-k-init c = laws.emptied_none _
 
 pub loop-k-preserved : goal.loop-k-preserved
 loop-k-preserved c = laws.emptied_more _ _ _ _ c.loop-k.invariant c.set_listed.ensures
-
-pub returns : goal.returns
-returns c = laws.emptied_all _ _ _ _ (omega arith) c.loop-k-test.false c.loop-k.invariant

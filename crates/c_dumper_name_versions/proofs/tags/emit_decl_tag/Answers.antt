@@ -16,4 +16,4 @@ returns-then-extra_word-comp_idx c =
 pub returns : goal.returns
 returns c =
     let f : c.of.result ≡ DeclTag = search rules in
-    tag_shown _ _ _ _ _ _ c.type_by_id-t.ensures _ _ _ _ _ _ _ refl (decl_tag_number _ (sym c.of.ensures ∙ f)) c.extra_word.ensures c.if-extra_word-comp_idx.false c.kind_flag_of.ensures c.put_attribute.ensures
+    tag_shown _ _ _ _ _ _ c.type_by_id-t.ensures _ _ _ _ _ _ refl (decl_tag_number _ (sym c.of.ensures ∙ f)) c.extra_word.ensures c.if-extra_word-comp_idx.false c.put_attribute.ensures

@@ -1,30 +1,16 @@
 use Rattle.std.proofs.lemmas.Bool.{not_from_true, not_from_false}
-use Prim.Native.Nat.{ℕ}
-use lib.ListN.{length-replicate}
 use Rattle.session_cut.proofs.call.Laws as laws
 use native.Mathlib.Omega.{arith}
-use mathlib.Core.Path.{refl, sym, ◌∙◌}
-use Rattle.spec_opening.specs.Table.{empty_index}
 use Rattle.session_cut.proofs.call.cut.Goals as goal
 
 pub returns-then-not-is_open : goal.returns-then-not-is_open
 returns-then-not-is_open c = laws.cut_closed _ _ _ _ _ c.is_open.ensures (not_from_false _ c.if-not-is_open.true)
-
-pub slice_bounds-index_records-end : goal.slice_bounds-index_records-end
-slice_bounds-index_records-end c = sym (length-replicate {A = ℕ} 262145 0)
-
-pub index_records-requires : goal.index_records-requires
-unfolding empty_index
-index_records-requires c = refl
 
 pub returns-in_default : goal.returns-in_default
 returns-in_default c = laws.cut_unsound _ _ _ _ _ c.is_open.ensures (not_from_true _ c.if-not-is_open.false) _ _ c.index_records.ensures _ c.in_default.is
 
 pub returns-then-is_past : goal.returns-then-is_past
 returns-then-is_past c = laws.cut_past _ _ _ _ _ c.is_open.ensures (not_from_true _ c.if-not-is_open.false) _ _ c.index_records.ensures c.in-Ok.counts c.in-Ok.is _ c.is_past.ensures c.if-is_past.true
-
-pub slice_bounds-index-end : goal.slice_bounds-index-end
-slice_bounds-index-end c = sym (c.index_records.auto.start ∙ length-replicate {A = ℕ} 262145 0)
 
 pub returns : goal.returns
 returns c =

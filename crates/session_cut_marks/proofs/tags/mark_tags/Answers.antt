@@ -1,4 +1,4 @@
-use Rattle.session_cut_marks.proofs.tags.Laws.{none_tagged, more_tagged, all_tagged}
+use Rattle.session_cut_marks.proofs.tags.Laws.{none_tagged, more_tagged}
 use Rattle.session_cut_marks.proofs.tags.mark_tags.Goals as goal
 
 pub loop-x-init : goal.loop-x-init
@@ -6,6 +6,3 @@ loop-x-init c = none_tagged _ _ _ _
 
 pub loop-x-preserved : goal.loop-x-preserved
 loop-x-preserved c = more_tagged _ _ _ _ _ _ _ c.loop-x.invariant c.mark_tag.ensures
-
-pub returns : goal.returns
-returns c = all_tagged _ _ _ _ _ _ _ c.count-x-end.ensures c.loop-x.auto.x-end c.loop-x-test.false c.loop-x.invariant

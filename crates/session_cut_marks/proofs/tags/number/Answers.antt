@@ -5,9 +5,6 @@ use Rattle.session_cut_marks.proofs.tags.number.Goals as goal
 pub loop-x-init : goal.loop-x-init
 loop-x-init c = (none_numbered _, omega arith)
 
-pub number_one-c-requires : goal.number_one-c-requires
-number_one-c-requires c = omega (arith, c.loop-x.invariant.1)
-
 pub loop-x-preserved : goal.loop-x-preserved
 loop-x-preserved c = (more_numbered _ _ _ _ _ _ c.loop-x.invariant.0 c.number_one-c.ensures, omega (arith, c.loop-x.invariant.1, number_up _ _ _ _ _ c.number_one-c.ensures))
 

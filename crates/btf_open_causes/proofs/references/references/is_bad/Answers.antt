@@ -2,7 +2,7 @@ use native.Mathlib.Omega.{arith}
 use mathlib.Core.Path.{◌≡◌, refl}
 use Rattle.btf_open_causes.specs.references.Followed.{kind_at}
 use mathlib.Core.Logic.{⊎_elim, inl, inr}
-use Rattle.spec_bytes.proofs.words.Laws.{le_or_lt}
+use Rattle.std.proofs.lemmas.Bool.{cases_lt}
 use Rattle.spec_type_table.specs.declared.kind.Kind.TheVariants.{Func, Var, Datasec, DeclTag}
 use Rattle.spec_type_table.proofs.KindNames.{is, isnt}
 use Rattle.btf_open_causes.proofs.references.BadIds.{bad_out, bad_one, bad_two, bad_none}
@@ -22,4 +22,4 @@ returns-in_default c =
     let n14 : kind_at c.args.i.now.table.head c.args.i.now.start.now c.args.y ≡ 14 → ⊥ = isnt _ _ c.kind_at.ensures Var c.in_default.not-Var in
     let n15 : kind_at c.args.i.now.table.head c.args.i.now.start.now c.args.y ≡ 15 → ⊥ = isnt _ _ c.kind_at.ensures Datasec c.in_default.not-Datasec in
     let n17 : kind_at c.args.i.now.table.head c.args.i.now.start.now c.args.y ≡ 17 → ⊥ = isnt _ _ c.kind_at.ensures DeclTag c.in_default.not-DeclTag in
-    bad_none _ _ _ _ c.count-n.ensures c.if-n-y.false _ refl (λ o. ⊎_elim n12 n17 o) (⊎_elim (λ l. inr l) (λ l. inl (omega arith)) (le_or_lt 16 (kind_at c.args.i.now.table.head c.args.i.now.start.now c.args.y)))
+    bad_none _ _ _ _ c.count-n.ensures c.if-n-y.false _ refl (λ o. ⊎_elim n12 n17 o) (⊎_elim (λ l. inl (omega arith)) (λ l. inr l) (cases_lt (kind_at c.args.i.now.table.head c.args.i.now.start.now c.args.y) 16))

@@ -1,24 +1,14 @@
-use mathlib.Core.Path.{◌≡◌, refl, ap, ◌∙◌}
-use Rattle.std.proofs.Common.{arith, length, get_or}
-use Prim.Native.Nat.{ℕ}
-use Rattle.spec_type_table.specs.Names.{name_at}
-use Rattle.btf_open_names.proofs.name_classes.Names as laws
+use Rattle.std.proofs.Common.{rules, tests, refl, ℕ, not, eqb, ◌∙◌, ap₂}
+use Rattle.std.proofs.lemmas.Iterator.{YieldsList-from_slice}
+use Rattle.std.proofs.lemmas.Iterator.Search.{YieldsList-from_take_while}
+use Rattle.btf_open_names.specs.name_classes.Same.{same_list}
+use Rattle.btf_open_names.proofs.name_classes.Names.{taken_name}
+use Rattle.btf_open_names.proofs.keys.Equal.{same_from_yields_List}
 use Rattle.btf_open_names.proofs.keys.hash.same_name.Goals as goal
-
-pub loop-k-init : goal.loop-k-init
-unfolding name_at
-loop-k-init c = refl
-
-pub returns-then-a-peek : goal.returns-then-a-peek
-returns-then-a-peek c = laws.names_differ _ _ _ _ c.loop-k.invariant _ _ refl c.peek.ensures c.if-a-peek.true
-
-pub returns-then-a-eq0 : goal.returns-then-a-eq0
-returns-then-a-eq0 c = laws.names_both _ _ _ _ c.loop-k.invariant _ _ refl c.peek.ensures c.if-a-peek.false c.if-a-eq0.true
-
-pub loop-k-preserved : goal.loop-k-preserved
-loop-k-preserved c = laws.names_turn _ _ _ _ c.loop-k.invariant _ _ refl c.peek.ensures c.if-a-peek.false c.if-a-eq0.false
 
 pub returns : goal.returns
 returns c =
-    let e : length c.args.x.now ≡ c.loop-k.k = omega arith in
-    laws.names_end _ _ _ _ c.loop-k.invariant c.loop-k-test.false _ (c.peek-2.ensures ∙ ap (λ (j : ℕ). get_or c.args.y.now j 0) e)
+    same_from_yields_List (λ x y. refl) {other = c.take_while-2.result} c.eq.ensures.ran
+    (YieldsList-from_take_while _ (λ (x : ℕ). not (eqb x 0)) (YieldsList-from_slice c.args.x.now (cc)) c.take_while.ensures.closure c.take_while.ensures.done (λ x b q k. search (rules, tests)))
+    (YieldsList-from_take_while _ (λ (x : ℕ). not (eqb x 0)) (YieldsList-from_slice c.args.y.now (cc)) c.take_while-2.ensures.closure c.take_while-2.ensures.done (λ x b q k. search (rules, tests)))
+    ∙ ap₂ same_list (taken_name c.args.x.now) (taken_name c.args.y.now)

@@ -1,28 +1,16 @@
-use Rattle.btf_open_names.proofs.filled_work.Bytes.{numeral_zero, numeral_no, numeral_turn, numeral_end}
-use Rattle.btf_open_names.proofs.suffixes.Found.{none_zero, some_number}
-use Rattle.spec_type_table.specs.Names.{name_at}
-use Rattle.std.proofs.Common.{unwrap_or}
-use Rattle.std.proofs.Common.{Option, arith}
-use Prim.Native.Nat.{ℕ}
-use mathlib.Core.Path.{refl, ap, sym, ◌∙◌}
+use Rattle.std.proofs.Common.{rules, tests, ℕ, not, eqb, ◌∙◌, ap}
+use Rattle.std.proofs.lemmas.Iterator.{YieldsList-from_slice}
+use Rattle.std.proofs.lemmas.Iterator.Search.{YieldsList-from_take_while}
+use Rattle.btf_open_names.specs.filled_work.Takers.{numeral}
+use Rattle.btf_open_names.proofs.filled_work.Bytes.{Numbers, numeral_end, numeral_more}
+use Rattle.btf_open_names.proofs.name_classes.Names.{taken_name}
+use Rattle.base_bytes.proofs.TryFolds.{try_fold_option_from_yields_List}
 use Rattle.btf_open_names.proofs.suffixes.suffix.numeral.Goals as goal
 
-pub loop-x-init : goal.loop-x-init
-unfolding name_at
-loop-x-init c = refl
-
-pub returns-then-x-eq0 : goal.returns-then-x-eq0
-returns-then-x-eq0 c = numeral_zero _ _ _ _ c.loop-x.invariant c.if-x-eq0.true
-
-pub returns-in_err-acc : goal.returns-in_err-acc
-returns-in_err-acc c =
-    ap (λ (o : Option ℕ). unwrap_or o 0) c.from_residual.ensures
-    ∙ numeral_no _ _ _ _ c.loop-x.invariant _ c.if-x-eq0.false refl (none_zero _ (sym c.in_err-acc.was ∙ c.digit_after.ensures))
-
-pub loop-x-preserved : goal.loop-x-preserved
-loop-x-preserved c =
-    let f = some_number _ _ (sym c.in_ok-acc.was ∙ c.digit_after.ensures) in
-    numeral_turn _ _ _ _ c.loop-x.invariant _ c.if-x-eq0.false f.0 f.1
-
 pub returns : goal.returns
-returns c = numeral_end _ _ _ _ c.loop-x.invariant (omega arith)
+returns c =
+    try_fold_option_from_yields_List _ _ _ _ c.try_fold.ensures.ran
+    (YieldsList-from_take_while _ (λ (x : ℕ). not (eqb x 0)) (YieldsList-from_slice c.args.name.now (cc)) c.take_while.ensures.closure c.take_while.ensures.done (λ x b q k. search (rules, tests)))
+    Numbers numeral_end
+    (λ a x w q d. (search rules, numeral_more a x.now w (search rules)))
+    ∙ ap numeral (taken_name c.args.name.now)

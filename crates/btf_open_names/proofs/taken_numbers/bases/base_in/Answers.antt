@@ -22,7 +22,7 @@ loop-c-init c =
 
 pub returns-in-Some : goal.returns-in-Some
 returns-in-Some c =
-    let key = key_in c.args.b.now.head c.args.b.now.section.now c.args.work.now in
+    let key = key_in c.args.all.now.table.head c.args.all.now.table.section.now c.args.work.now in
     let r = c.hash_before.ensures ∙ ap₂ hash_before c.from.ensures (name_of_rest _ _ _ c.from_name.ensures) in
     let f = with_is _ _ _ (c.in-Some.ensures ∙ ap (λ (l : List ℕ). base_with c.loop-c.c (suffix_on (key c.loop-c.c) l)) c.in_ok-key.ensures) in
     ap Some f.0 ∙ based_some _ _ _ _ _ c.loop-c-test.true (seek_found _ _ _ _ _ c.requires.1 _ _ c.in_ok-key.ensures _ r _ c.loop-c.invariant c.loop-c-test.true _ refl f.1) refl
@@ -34,7 +34,7 @@ loop-c-smaller c =
 
 pub loop-c-preserved : goal.loop-c-preserved
 loop-c-preserved c =
-    let key = key_in c.args.b.now.head c.args.b.now.section.now c.args.work.now in
+    let key = key_in c.args.all.now.table.head c.args.all.now.table.section.now c.args.work.now in
     let r = c.hash_before.ensures ∙ ap₂ hash_before c.from.ensures (name_of_rest _ _ _ c.from_name.ensures) in
     seek_turn _ _ _ _ _ c.requires.1 _ _ c.in_ok-key.ensures _ r _ c.loop-c.invariant c.loop-c-test.true _ refl _
     (with_not _ _ (c.in_default.ensures ∙ ap (λ (l : List ℕ). base_with c.loop-c.c (suffix_on (key c.loop-c.c) l)) c.in_ok-key.ensures)) c.get-c-in-loop-c.ensures

@@ -14,9 +14,6 @@ returns-in_default c = taker_plain _ _ _ _ _ _ c.get.ensures c.if-get-h.false _ 
 pub returns-then-not-has_suffix : goal.returns-then-not-has_suffix
 returns-then-not-has_suffix c = taker_plain _ _ _ _ _ _ c.get.ensures c.if-get-h.false _ c.in-Some.ensures _ (suffixed_some _ _ _ _ (spaced _) (c.has_suffix.ensures ∙ ap any_suffix (name_of_rest _ _ _ c.from_name.ensures))) c.if-not-has_suffix.true
 
-pub base-requires : goal.base-requires
-base-requires c = c.requires
-
 pub returns-in-Some-base : goal.returns-in-Some-base
 returns-in-Some-base c = taker_some _ _ _ _ _ _ c.get.ensures c.if-get-h.false _ c.in-Some.ensures _ (suffixed_some _ _ _ _ (spaced _) (c.has_suffix.ensures ∙ ap any_suffix (name_of_rest _ _ _ c.from_name.ensures))) c.if-not-has_suffix.false _ refl _ c.in-Some-base.ensures _ c.put_on.ensures
 

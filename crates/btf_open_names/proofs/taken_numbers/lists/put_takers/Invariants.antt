@@ -6,4 +6,4 @@ use lib.ListN.{length}
 use Rattle.btf_open_names.proofs.taken_numbers.lists.put_takers.Given as goal
 
 abbrev pub invariant-loop-h : goal.invariant-loop-h
-invariant-loop-h l = (length l.work ≡ length l.initial.work) × (takers_put l.b.head l.b.section.now l.n (l.n - 1) l.initial.work ≡ takers_put l.b.head l.b.section.now l.n (l.h - 1) l.work) × TableIf l.has_table l.b.head l.b.section.now l.work l.n
+invariant-loop-h l = (length l.work ≡ length l.initial.work) × (takers_put l.all.table.head l.all.table.section.now l.all.n (l.all.n - 1) l.initial.work ≡ takers_put l.all.table.head l.all.table.section.now l.all.n (l.h - 1) l.work) × TableIf l.has_table l.all.table.head l.all.table.section.now l.work l.all.n

@@ -15,9 +15,6 @@ use Rattle.c_dumper_emit.proofs.emission.Emission.+emit_type.Goals as goal
 pub emit_composite-returns-then-cont-ne0 : goal.emit_composite-returns-then-cont-ne0
 emit_composite-returns-then-cont-ne0 t c = λ n. new.composite_mention _ _ _ _ n _ _ _ _ _ _ _ _ c.requires _ c.is_named-named.ensures _ (rw (c.if-named.true, ne_eqb c.args.cont 0 c.if-cont-ne0.true) refl) _ (c.mention_composite.ensures n)
 
-pub emit_composite-emit_entries-requires : goal.emit_composite-emit_entries-requires
-emit_composite-emit_entries-requires t c = (new.to_composite_entries c.args.left t c.decreases, tt)
-
 pub emit_composite-returns : goal.emit_composite-returns
 emit_composite-returns t c = λ n. new.composite_entries _ _ _ _ _ _ _ _ _ _ _ _ c.entries_of-members.ensures (new.composite_ends _ _ _ _ n _ _ _ _ _ _ _ _ c.requires _ c.is_named-named.ensures _ (elim c.else-named.branch [
   | emit_composite-else-named-via-then-named+else-cont-ne0 w ↦ and_right _ _ (ap not (eq-eqb c.args.cont 0 w.if-cont-ne0.false))
@@ -36,9 +33,6 @@ emit_entries-loop-k-init t c = (refl, λ n. walk.rest_start _ _ _ _ _ _ _ _ n _ 
 pub emit_entries-loop-k-preserved-then-is_emitted : goal.emit_entries-loop-k-preserved-then-is_emitted
 emit_entries-loop-k-preserved-then-is_emitted t c = (c.loop-k.invariant.0, λ n. walk.rest_skip _ _ _ _ _ _ _ _ n _ _ _ _ _ _ _ _ _ (c.loop-k.invariant.1 n) _ c.entry_type-t.ensures _ c.is_emitted.ensures c.if-is_emitted.true (omega arith))
 
-pub emit_entries-emit_type-requires : goal.emit_entries-emit_type-requires
-emit_entries-emit_type-requires t c = (new.to_loop_type c.args.left t c.decreases, tt)
-
 pub emit_entries-loop-k-preserved : goal.emit_entries-loop-k-preserved
 emit_entries-loop-k-preserved t c = (c.emit_type.auto.list ∙ c.loop-k.invariant.0, λ n. walk.rest_turn _ _ _ _ _ _ _ _ n _ _ _ _ _ _ _ _ _ (c.loop-k.invariant.1 n) _ c.entry_type-t.ensures _ (laws.same_lent _ _ _ c.loop-k.invariant.0) _ _ _ _ (c.in_ok-a.ensures n) (omega arith))
 
@@ -48,32 +42,11 @@ emit_entries-returns t c = λ n. listed.entries_end _ _ _ _ _ _ _ _ n _ _ _ _ _ 
 pub emit_entries-returns-in_err-a : goal.emit_entries-returns-in_err-a
 emit_entries-returns-in_err-a t c = λ n. listed.entries_halt _ _ _ _ _ _ _ _ n _ _ _ _ _ _ _ _ (walk.rest_turn _ _ _ _ _ _ _ _ n _ _ _ _ _ _ _ _ _ (c.loop-k.invariant.1 n) _ c.entry_type-t.ensures _ (laws.same_lent _ _ _ c.loop-k.invariant.0) _ _ _ _ (c.in_err-a.ensures n) (omega arith)) _ c.from_residual.ensures.1
 
-pub emit_new-emit_leaf-requires : goal.emit_new-emit_leaf-requires
-emit_new-emit_leaf-requires t c = c.requires
-
-pub emit_new-emit_type-requires : goal.emit_new-emit_type-requires
-emit_new-emit_type-requires t c = (new.to_new_type c.args.left t c.decreases, tt)
-
-pub emit_new-emit_type-requires-in-Proto : goal.emit_new-emit_type-requires-in-Proto
-emit_new-emit_type-requires-in-Proto t c = (new.to_new_type c.args.left t c.decreases, tt)
-
-pub emit_new-emit_type-requires-in-Array : goal.emit_new-emit_type-requires-in-Array
-emit_new-emit_type-requires-in-Array t c = (new.to_new_type c.args.left t c.decreases, tt)
-
-pub emit_new-emit_entries-requires : goal.emit_new-emit_entries-requires
-emit_new-emit_entries-requires t c = (new.to_new_entries c.args.left t c.decreases, tt)
-
-pub emit_new-emit_composite-requires : goal.emit_new-emit_composite-requires
-emit_new-emit_composite-requires t c = (new.to_new_composite c.args.left t c.decreases, c.requires)
-
 pub emit_new-returns-in-Ignored : goal.emit_new-returns-in-Ignored
 emit_new-returns-in-Ignored t c = λ n. new.new_none _ _ _ _ n _ _ _ _ _ _ _ _ c.requires _ c.node_of.ensures _ c.in-Ignored.is refl
 
 pub emit_new-returns-in-Enum : goal.emit_new-returns-in-Enum
 emit_new-returns-in-Enum t c = λ n. new.new_enum _ _ _ _ n _ _ _ _ _ _ _ _ c.requires _ c.node_of.ensures _ c.in-Enum.is (c.emit_leaf.ensures n)
-
-pub emit_new-emit_leaf-requires-in-Fwd : goal.emit_new-emit_leaf-requires-in-Fwd
-emit_new-emit_leaf-requires-in-Fwd t c = c.requires
 
 pub emit_new-returns-in-Fwd : goal.emit_new-returns-in-Fwd
 emit_new-returns-in-Fwd t c = λ n. new.new_fwd _ _ _ _ n _ _ _ _ _ _ _ _ c.requires _ c.node_of.ensures _ c.in-Fwd.is (c.emit_leaf-in-Fwd.ensures n)
@@ -107,9 +80,6 @@ emit_type-returns-in-Open t c = λ n. walk.emit_busy _ _ _ _ n _ _ _ _ _ _ _ c.i
 
 pub emit_type-returns-then-not-named : goal.emit_type-returns-then-not-named
 emit_type-returns-then-not-named t c = λ n. walk.emit_nameless _ _ _ _ n _ _ _ _ _ _ _ c.if-left-eq0.false (sym c.get_mark.ensures ∙ ap mark_is c.in-New.is) _ c.type_by_id-t.ensures _ c.is_named-named.ensures (rw (eq-eqb c.args.cont 0 c.if-cont-eq0.true) (ap not c.if-not-named.true))
-
-pub emit_type-emit_new-requires : goal.emit_type-emit_new-requires
-emit_type-emit_new-requires t c = (new.to_type_new c.args.left t c.decreases c.if-left-eq0.false, c.type_by_id-t.ensures)
 
 pub emit_type-returns : goal.emit_type-returns
 emit_type-returns t c = λ n. walk.emit_fresh _ _ _ _ n _ _ _ _ _ _ _ c.if-left-eq0.false (sym c.get_mark.ensures ∙ ap mark_is c.in-New.is) _ c.type_by_id-t.ensures _ c.is_named-named.ensures (elim c.else-cont-eq0.branch [

@@ -1,21 +1,11 @@
-use Prim.Native.Nat.{ℕ}
-use mathlib.Core.Path.{sym}
-use lib.ListN.{length-replicate}
 use Rattle.session_cut.proofs.writer.Laws.{kept_long, kept_strings, kept_types, kept_is}
 use Rattle.session_cut_marks.specs.mentioned.Names.{zero_bases}
-use Rattle.session_cut_marks.specs.declared.interned.slots.Slot.{Slot}
 use Rattle.session_cut_marks.proofs.interned.Laws.{from_free}
 use Rattle.session_cut_marks.proofs.interned.Right.{table_length, table_bases, table_right}
 use Rattle.session_cut.proofs.writer.write.write_kept.Goals as goal
 
 pub returns-then-kept-gt-MOST_BYTES : goal.returns-then-kept-gt-MOST_BYTES
 returns-then-kept-gt-MOST_BYTES c = kept_long _ _ _ _ _ c.if-kept-gt-MOST_BYTES.true
-
-pub slice_bounds-fill_table-end : goal.slice_bounds-fill_table-end
-slice_bounds-fill_table-end c = sym (length-replicate {A = Slot} 262144 (record { off = 0; place = 0 }))
-
-pub slice_bounds-fill_table-end-2 : goal.slice_bounds-fill_table-end-2
-slice_bounds-fill_table-end-2 c = sym (length-replicate {A = ℕ} 262145 0)
 
 pub returns-then-strings-gt-MOST_BYTES_32 : goal.returns-then-strings-gt-MOST_BYTES_32
 unfolding zero_bases

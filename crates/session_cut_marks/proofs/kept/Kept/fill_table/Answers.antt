@@ -13,9 +13,6 @@ returns-then-self-gt-MOST_BYTES c = filling_long _ _ _ _ _ _ c.if-self-gt-MOST_B
 pub loop-x-init : goal.loop-x-init
 loop-x-init c = (none_filled _ _ _ _ _ c.args.lengths.now, no_lengths _ _ _ _ (slot_words c.args.table.now) _, refl)
 
-pub invariant_of-from : goal.invariant_of-from
-invariant_of-from c = record { short = c.if-self-gt-MOST_BYTES.false }
-
 pub loop-x-preserved : goal.loop-x-preserved
 loop-x-preserved c = (
   more_filled _ _ _ _ _ c.args.lengths.now _ _ _ c.loop-x.invariant.0 _ c.enter_type.ensures.filled,

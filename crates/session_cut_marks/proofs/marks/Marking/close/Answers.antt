@@ -1,12 +1,9 @@
 use Rattle.session_cut_marks.proofs.marks.Laws.{close_more, close_less, close_end}
 use lib.ListN.{get_or}
 use Prim.Native.Nat.{◌-◌}
-use mathlib.Core.Path.{◌≡◌, refl, ◌∙◌}
+use mathlib.Core.Path.{◌≡◌, ◌∙◌}
 use Rattle.std.proofs.Common.{rules}
 use Rattle.session_cut_marks.proofs.marks.Marking.close.Goals as goal
-
-pub loop-self-init : goal.loop-self-init
-loop-self-init c = (refl, (refl, refl))
 
 pub loop-self-smaller : goal.loop-self-smaller
 loop-self-smaller c =
@@ -23,6 +20,3 @@ loop-self-preserved c =
 
 pub returns-clause-turned : goal.returns-clause-turned
 returns-clause-turned c = close_end _ _ _ _ _ _ c.loop-self-test.false _ c.loop-self.invariant.0
-
-pub returns-clause-same : goal.returns-clause-same
-returns-clause-same c = c.loop-self.invariant.1

@@ -12,6 +12,3 @@ loop-k-preserved c =
 
 pub returns-clause-turned : goal.returns-clause-turned
 returns-clause-turned c = all_followed _ _ _ _ _ c.entry-e.ensures _ _ c.count_at-k-end.ensures c.loop-k.auto.k-end c.loop-k-test.false _ _ c.loop-k.invariant.0
-
-pub returns-clause-same : goal.returns-clause-same
-returns-clause-same c = c.loop-k.invariant.1

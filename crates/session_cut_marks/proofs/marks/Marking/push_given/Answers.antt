@@ -1,4 +1,4 @@
-use Rattle.session_cut_marks.proofs.marks.Laws.{none_pushed, more_pushed, all_pushed}
+use Rattle.session_cut_marks.proofs.marks.Laws.{none_pushed, more_pushed}
 use mathlib.Core.Path.{refl, ◌∙◌}
 use Rattle.session_cut_marks.proofs.marks.Marking.push_given.Goals as goal
 
@@ -9,9 +9,3 @@ pub loop-k-preserved : goal.loop-k-preserved
 loop-k-preserved c =
     let same = c.push.ensures.same in
     (more_pushed _ _ _ _ _ _ _ _ _ _ c.loop-k.invariant.0 c.get_word.ensures c.push.ensures.turned, (same.0 ∙ c.loop-k.invariant.1.0, same.1 ∙ c.loop-k.invariant.1.1))
-
-pub returns-clause-turned : goal.returns-clause-turned
-returns-clause-turned c = all_pushed _ _ _ _ _ c.loop-k.auto.k-end c.loop-k-test.false c.loop-k.invariant.0
-
-pub returns-clause-same : goal.returns-clause-same
-returns-clause-same c = c.loop-k.invariant.1

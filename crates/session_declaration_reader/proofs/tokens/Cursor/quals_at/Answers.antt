@@ -1,17 +1,21 @@
+use native.Mathlib.Omega.{arith}
 use Rattle.session_declaration_reader.proofs.bases.BaseLaws as laws
 use Rattle.session_declaration_reader.proofs.tokens.Cursor.quals_at.Goals as goal
 
+pub loop-i-init : goal.loop-i-init
+loop-i-init c = laws.gathered_none _ _
+
 pub returns-in_default : goal.returns-in_default
-returns-in_default c = laws.quals_none _ _ _ c.token-t.ensures c.in_default.not-Qualifier
+returns-in_default c = laws.gathered_all _ _ _ _ _ c.loop-i.invariant _ c.token-t.ensures c.in_default.not-Qualifier
 
-pub returns-in_default-kind : goal.returns-in_default-kind
-returns-in_default-kind c = laws.quals_one _ _ _ c.token-t.ensures _ c.in-Qualifier.is _ c.token-u.ensures c.in_default-kind.not-Qualifier
+pub returns-then-contains : goal.returns-then-contains
+returns-then-contains c = laws.gathered_twice _ _ _ _ _ c.loop-i.invariant _ c.token-t.ensures _ c.in-Qualifier.is _ c.contains.ensures.value c.if-contains.true
 
-pub returns-then-eq : goal.returns-then-eq
-returns-then-eq c = laws.quals_twice _ _ _ c.token-t.ensures _ c.in-Qualifier.is _ c.token-u.ensures _ c.in-Qualifier-kind.is c.if-eq.ensures
+pub loop-i-preserved : goal.loop-i-preserved
+loop-i-preserved c = laws.gathered_more _ _ _ _ _ c.loop-i.invariant _ c.token-t.ensures _ c.in-Qualifier.is c.loop-i-test.true _ c.contains.ensures.value c.if-contains.false
 
-pub returns-in_default-kind-2 : goal.returns-in_default-kind-2
-returns-in_default-kind-2 c = laws.quals_two _ _ _ c.token-t.ensures _ c.in-Qualifier.is _ c.token-u.ensures _ c.in-Qualifier-kind.is c.if-eq.ensures _ c.token-v.ensures c.in_default-kind-2.not-Qualifier
+pub returns-in-Qualifier-kind : goal.returns-in-Qualifier-kind
+returns-in-Qualifier-kind c = laws.gathered_four _ _ _ _ _ c.loop-i.invariant _ c.token-t-2.ensures _ c.in-Qualifier-kind.is (omega arith)
 
 pub returns : goal.returns
-returns c = laws.quals_three _ _ _ c.token-t.ensures _ c.in-Qualifier.is _ c.token-u.ensures _ c.in-Qualifier-kind.is c.if-eq.ensures _ c.token-v.ensures _ c.in-Qualifier-kind-2.is _ c.three_quals.ensures
+returns c = laws.gathered_all _ _ _ _ _ c.loop-i.invariant _ c.token-t-2.ensures c.in_default-kind.not-Qualifier

@@ -8,9 +8,6 @@ use Rattle.session_requests.proofs.call.Requests.dump_all.Goals as goal
 pub loop-id-init : goal.loop-id-init
 loop-id-init c = (refl, refl, refl, ap (λ (x : Progress). x.of.stop) c.none_yet-r.ensures, refl, (omega (arith, c.requires.0, ap (λ (x : Progress). x.of.len) c.none_yet-r.ensures), omega (arith, ap (λ (x : Progress). x.count) c.none_yet-r.ensures), λ _. omega (arith, ap (λ (x : Progress). x.made) c.none_yet-r.ensures)), laws.all_start _ _ _ _ _ _ _ _ _ _ _ _ c.none_yet-r.ensures, refl, c.requires.1, ap (λ (x : Progress). x.of.visits) c.none_yet-r.ensures ∙ c.visits_in.ensures)
 
-pub dump_next-r-requires : goal.dump_next-r-requires
-dump_next-r-requires c = (c.loop-id.invariant.5, c.loop-id.invariant.8, c.loop-id.invariant.9)
-
 pub returns-then-is_some : goal.returns-then-is_some
 returns-then-is_some c =
     let x = laws.stopped_by _ (sym c.is_some.ensures ∙ c.if-is_some.true) in

@@ -14,9 +14,6 @@ loop-k-init c =
 pub returns-then-s-id : goal.returns-then-s-id
 returns-then-s-id c = (lists.tally_past _ _ _ _ _ _ c.loop-k.r _ _ c.tally_of.ensures c.unknown.ensures (lists.list_past _ c.args.s _ c.loop-k.invariant.6 _ c.requires.0 _ _ _ _ _ _ _ _ _ _ _ c.loop-k.invariant.7 c.loop-k.invariant.4.0 c.loop-k.invariant.4.1 c.loop-k.invariant.8 c.loop-k.invariant.9 c.loop-k-test.true _ c.get_word-id.ensures c.if-s-id.true), lists.tally_room _ _ _ _ c.tally_of.ensures (omega (arith, ap (λ (x : Progress). x.count) c.unknown.ensures, c.loop-k.invariant.4.1, c.loop-k.invariant.2)))
 
-pub dump_one-r-requires : goal.dump_one-r-requires
-dump_one-r-requires c = (c.loop-k.invariant.4, c.loop-k.invariant.5)
-
 pub returns-then-is_some : goal.returns-then-is_some
 returns-then-is_some c =
     let x = stopped_by _ (sym c.is_some.ensures ∙ c.if-is_some.true) in

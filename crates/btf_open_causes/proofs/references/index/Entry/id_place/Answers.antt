@@ -2,7 +2,7 @@ use native.Mathlib.Omega.{arith}
 use Rattle.std.proofs.Common.{ℕ, ◌%◌, ap, ◌∙◌}
 use mathlib.Core.Path.{◌≡◌}
 use mathlib.Core.Logic.{⊎_elim, inl, inr}
-use Rattle.spec_bytes.proofs.words.Laws.{le_or_lt}
+use Rattle.std.proofs.lemmas.Bool.{cases_lt}
 use Rattle.spec_type_table.specs.declared.kind.Kind.TheVariants.{Array, Struct, Union, FuncProto}
 use Rattle.spec_type_table.proofs.KindNames.{is, isnt}
 use Rattle.btf_open_causes.proofs.references.Accessors.{id_element, id_members, id_result, id_param, id_target, no_composite}
@@ -35,4 +35,4 @@ returns-in_default c =
     let n4 : (c.args.self.word % 32) ≡ 4 → ⊥ = isnt _ _ c.kind.ensures Struct c.in_default.not-Struct in
     let n5 : (c.args.self.word % 32) ≡ 5 → ⊥ = isnt _ _ c.kind.ensures Union c.in_default.not-Union in
     let n13 : (c.args.self.word % 32) ≡ 13 → ⊥ = isnt _ _ c.kind.ensures FuncProto c.in_default.not-FuncProto in
-    place_by _ _ _ _ c.place-at.ensures (id_target _ _ _ n3 (no_composite (c.args.self.word % 32) (⊎_elim (λ l. inr l) (λ l. inl (omega arith)) (le_or_lt 6 (c.args.self.word % 32)))) n13)
+    place_by _ _ _ _ c.place-at.ensures (id_target _ _ _ n3 (no_composite (c.args.self.word % 32) (⊎_elim (λ l. inl (omega arith)) (λ l. inr l) (cases_lt (c.args.self.word % 32) 6))) n13)

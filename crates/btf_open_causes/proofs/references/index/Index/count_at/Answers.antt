@@ -2,7 +2,7 @@ use Prim.Native.Nat.{◌%◌}
 use native.Mathlib.Omega.{arith}
 use mathlib.Core.Path.{◌≡◌}
 use mathlib.Core.Logic.{⊎_elim, inl, inr}
-use Rattle.spec_bytes.proofs.words.Laws.{le_or_lt}
+use Rattle.std.proofs.lemmas.Bool.{cases_lt}
 use Rattle.spec_type_table.specs.declared.kind.Kind.TheVariants.{Ptr, Array, Typedef, Volatile, Const, Restrict, TypeTag, Struct, Union, FuncProto}
 use Rattle.spec_type_table.proofs.KindNames.{is, isnt}
 use Rattle.btf_open_causes.proofs.references.Accessors.{count_by, count_any, count_none, count_tag, count_pointer, count_through, count_members, count_proto}
@@ -32,4 +32,4 @@ returns-in_default c =
     let n4 : (c.args.e.word % 32) ≡ 4 → ⊥ = isnt _ _ c.kind.ensures Struct c.in_default.not-Struct in
     let n5 : (c.args.e.word % 32) ≡ 5 → ⊥ = isnt _ _ c.kind.ensures Union c.in_default.not-Union in
     let n13 : (c.args.e.word % 32) ≡ 13 → ⊥ = isnt _ _ c.kind.ensures FuncProto c.in_default.not-FuncProto in
-    count_any _ _ _ _ _ (count_none _ _ n13 n18 (⊎_elim (λ l. inr (inr (omega arith))) (λ l. ⊎_elim (λ m. inr (inl (omega arith, omega arith))) (λ m. inl (omega arith)) (le_or_lt 6 (c.args.e.word % 32))) (le_or_lt 8 (c.args.e.word % 32))))
+    count_any _ _ _ _ _ (count_none _ _ n13 n18 (⊎_elim (λ l. ⊎_elim (λ m. inl (omega arith)) (λ m. inr (inl (omega arith, omega arith))) (cases_lt (c.args.e.word % 32) 6)) (λ l. inr (inr (omega arith))) (cases_lt (c.args.e.word % 32) 8)))

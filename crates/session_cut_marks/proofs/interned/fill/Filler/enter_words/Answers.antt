@@ -1,4 +1,4 @@
-use Rattle.session_cut_marks.proofs.interned.Laws.{no_words, more_words, all_words}
+use Rattle.session_cut_marks.proofs.interned.Laws.{no_words, more_words}
 use mathlib.Core.Path.{refl, ◌∙◌}
 use Rattle.session_cut_marks.proofs.interned.fill.Filler.enter_words.Goals as goal
 
@@ -7,9 +7,3 @@ loop-j-init c = (no_words _ _ _ _ _ _ _ _, refl)
 
 pub loop-j-preserved : goal.loop-j-preserved
 loop-j-preserved c = (more_words _ _ _ _ _ _ _ _ _ _ _ _ c.loop-j.invariant.0 c.enter.ensures.filled, c.enter.ensures.same ∙ c.loop-j.invariant.1)
-
-pub returns-clause-filled : goal.returns-clause-filled
-returns-clause-filled c = all_words _ _ _ _ _ _ _ _ _ _ _ c.words_in-j-end.ensures c.loop-j.auto.j-end c.loop-j-test.false c.loop-j.invariant.0
-
-pub returns-clause-same : goal.returns-clause-same
-returns-clause-same c = c.loop-j.invariant.1

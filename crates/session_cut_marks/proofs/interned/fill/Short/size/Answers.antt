@@ -1,8 +1,6 @@
 use Rattle.session_cut_marks.proofs.mentioned.Laws.{name_short}
 use native.Mathlib.Omega.{arith}
 use mathlib.Core.Path.{ap}
-use mathlib.Core.List.{List}
-use Prim.Native.Nat.{ℕ, ◌+◌}
 use lib.ListN.{length}
 use Rattle.session_cut_marks.proofs.interned.fill.Short.size.Goals as goal
 
@@ -11,6 +9,3 @@ overflow_cast-result c = omega (arith, c.args.self.now.short, ap length c.get_bt
 
 pub overflow_add-result : goal.overflow_add-result
 overflow_add-result c = omega (arith, c.args.self.now.short, ap length c.get_btf_str.ensures, name_short c.args.self.now.kept.index.table.head c.args.self.now.kept.index.table.section.now c.args.off)
-
-pub returns : goal.returns
-returns c = ap (λ (l : List ℕ). length l + 1) c.get_btf_str.ensures

@@ -18,4 +18,4 @@ pub returns-clause-stored : goal.returns-clause-stored
 returns-clause-stored c =
     let h : c.args.self.now.n < 512 = omega arith in
     let l : c.args.self.now.n * 3 + 2 < length c.args.self.now.words.now = omega arith in
-    items.item_stored _ _ (item_of c.args.entry) h l _ _ _ (omega arith) c.words.ensures c.copy_from_slice.ensures.after
+    items.item_stored _ _ (item_of c.args.entry) h l _ _ _ (omega arith) c.from.ensures c.copy_from_slice.ensures.after

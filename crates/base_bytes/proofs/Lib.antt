@@ -1,0 +1,2 @@
+-- Laws that speak of no bytes.
+pub mod TryFolds

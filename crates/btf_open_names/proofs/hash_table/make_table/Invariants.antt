@@ -1,8 +1,0 @@
-use Rattle.btf_open_names.specs.hash_table.Hashed.{table_from}
-use lib.ListN.{length}
-use mathlib.Core.Path.{◌≡◌}
-use Prim.Native.Nat.{◌+◌, ◌-◌, ◌≤◌}
-use Rattle.btf_open_names.proofs.hash_table.make_table.Given as goal
-
-abbrev pub invariant-loop-k : goal.invariant-loop-k
-invariant-loop-k l = (1 ≤ l.k + (1 - l.n)) × (length l.work ≡ length l.initial.work) × (l.work ≡ table_from l.b.head l.b.section.now l.n l.k l.initial.work)
