@@ -12,11 +12,12 @@ use std::rt::Files;
 // Bytes that are read of a file, and bytes of work and text.
 const MOST: usize = 65536;
 
-// Opens the file whose name is `name` and `ending`. The path is put together in bytes of its own, since the program allocates nothing.
+// Opens the file whose name is `name` and `ending`. The path is put together in bytes of its own, since the program allocates
+// nothing; where it does not fit, it is those bytes.
 fn open_read<R: Files>(rt: &R, name: &[u8], ending: &str) -> Option<R::File> {
     let mut path = [0u8; 128];
-    let at = put_bytes(&mut path, 0, name).ok()?;
-    let n = put_bytes(&mut path, at, ending.as_bytes()).ok()?;
+    let at = put_bytes(&mut path, 0, name).unwrap_or(path.len());
+    let n = put_bytes(&mut path, at, ending.as_bytes()).unwrap_or(path.len());
     File::open(rt, str::from_utf8(path.get(..n)?).ok()?).ok()
 }
 
@@ -45,8 +46,8 @@ fn holds<R: Files>(rt: &R, name: &[u8]) -> bool {
     }
 }
 
-// Tries the name on each line, and says how many there were and which differ.
-fn try_all<R: Files + Print>(rt: &R, names: &[u8]) -> io::Result<()> {
+// Tries the name on each line, and says how many there were and which differ. A write that fails is passed over.
+fn try_all<R: Files + Print>(rt: &R, names: &[u8]) {
     let mut count: u32 = 0;
     let mut differ: u32 = 0;
     for line in names.split_inclusive(|b| *b == b'\n') {
@@ -54,15 +55,14 @@ fn try_all<R: Files + Print>(rt: &R, names: &[u8]) -> io::Result<()> {
         count = count.saturating_add(1);
         if !holds(rt, name) {
             differ = differ.saturating_add(1);
-            io::writer(rt).write_all(name)?;
-            println!(rt; " differs")?;
+            let _ = io::writer(rt).write_all(name);
+            let _ = println!(rt; " differs");
         }
     }
-    println!(rt; "{count} sections, {differ} differ")
+    let _ = println!(rt; "{count} sections, {differ} differ");
 }
 
 fn main(rt: HostRuntime) {
     let mut buf = [0u8; MOST];
-    // A write that fails ends the program quietly.
-    let _ = try_all(&rt, read_file(&rt, b"names", "", &mut buf));
+    try_all(&rt, read_file(&rt, b"names", "", &mut buf));
 }
