@@ -1,5 +1,5 @@
 #!/usr/bin/env python3
-"""Counts in src/ the forms that docs/DESIGN-PASS.md speaks of: `python3 tools/forms.py [FOLDER] [--list]`.
+"""Counts the forms that docs/DESIGN-PASS.md speaks of, in src/, and what proofs/ has of answers: `python3 tools/forms.py [FOLDER] [--list]`.
 
 FOLDER is a checkout (this one if none is given); with --list each place is printed, as FILE:LINE.
 """
@@ -10,7 +10,10 @@ import sys
 FUNCTION = re.compile(r"^\s*(?:pub(?:\([a-z]+\))? )?fn (\w+)(?:<[^>]*>)?\((.*?)\)", re.S | re.M)
 STRUCT = re.compile(r"struct \w+(?:<[^>]*>)? \{(.*?)^\}", re.S | re.M)
 ENUM = re.compile(r"enum (\w+)(?:<[^>]*>)? \{(.*?)^\}", re.S | re.M)
-LOOP = re.compile(r"^( *)(?:while|loop)\b([^{]*)\{\n(.*?)^\1\}", re.S | re.M)
+LOOP = re.compile(r"^( *)(?:while|loop)\b([^\n]*)\{\n(.*?)^\1\}", re.S | re.M)
+# functions that did what std or a derive does: copies, equality, order, conversions, tests of a byte
+BY_HAND = r"(?:copy_(?:two|four|eight)|same(?:_bytes)?|stands_at|contains|larger|smaller|less|more|magnitude|join|checked|product|octets|is_multiple" \
+    r"|as_i32|as_i64|coded|code|digit|is_digit|void|closed|no_base|failed|refuse|(?:run|word|base)_sign)"
 STEP = re.compile(r"^ *(\w+)(?:\.\w+)? [+-]= (\w+);$", re.M)
 
 
@@ -108,7 +111,10 @@ FORMS = [
     ("1: own enums of two variants", result_shaped),
     ("3: loops that count an index", counting),
     ("3: other loops by while", walking),
+    ("4: functions that do what std or a derive does", lambda t: words(t, r"\bfn " + BY_HAND + r"\(")),
+    ("4: conversions by From, equality and defaults by derive", lambda t: words(t, r"\bimpl From<|derive\([^)]*(?:PartialEq|Default)")),
     ("6: indexes tested by hand", tested_indexes),
+    ("7: parameters and enums that choose a step", lambda t: words(t, r"\b(?:placing|has_table|is_set): bool\b|\benum (?:Each|Part)\b")),
     ("5: functions over a table and its section", lambda t: functions(t, r"\bb: TypeTable, section: &\[u8\]")),
     ("5: functions over a text and a place in it", lambda t: functions(t, r"\btext: &mut \[u8\], at: usize")),
 ]
@@ -127,6 +133,9 @@ def main():
         if "--list" in sys.argv:
             for path, line in places:
                 print(f"        {path.relative_to(root)}:{line}")
+    answers = sorted(root.glob("crates/*/proofs/**/Answers.antt"))
+    given = sum(len(re.findall(r"^pub ", path.read_text(), re.M)) for path in answers)
+    print(f"{given:5} in {len(answers):3} files  8: answers of goals")
     for name, groups in (("5: facts that three functions or more ask", facts(files)), ("2: bodies of one shape", shapes(files))):
         print(f"{len(groups):5} in {sum(map(len, groups.values())):3} functions  {name}")
         if "--list" in sys.argv:

@@ -1,6 +1,7 @@
 // The limits of document 01, and the numbers of 32 bits.
 
-// Bytes of a section; the same as a number of 32 and of 64 bits.
+// Bytes of a section. (Here and below a number stands once for each width: it is compared with a length, a word and a sum of words, and a
+// comparison has one type on both sides.)
 pub const MOST_BYTES: usize = 16777216;
 
 pub const MOST_BYTES_32: u32 = MOST_BYTES as u32;
@@ -20,9 +21,5 @@ pub const MOST_CALLS: u32 = 512;
 // Bytes of text.
 pub const MOST_TEXT: usize = 1073741824;
 
-// The largest number of 32 bits, also as a number of 64 bits; and the first number past it.
-pub const LARGEST: u32 = u32::MAX;
-
-pub const LARGEST_64: u64 = LARGEST as u64;
-
-pub const TWO_TO_32: u64 = LARGEST_64 + 1;
+// The first number past those of 32 bits.
+pub const TWO_TO_32: u64 = 1 << 32;

@@ -101,8 +101,8 @@ pub fn get_align_of(b: &Table, work: &mut [u8], id: u32, left: u32) -> Result<Se
     }
 }
 
-// The largest of the members' alignments, at least 1, and the largest of their heights. (A `for`: of a closure that writes the work
-// try_fold's contract tells no value after the calls, so that by try_fold the equation did not prove.)
+// The largest of the members' alignments, at least 1, and the largest of their heights. (A `for`: try_fold was tried, and the proof
+// did not close, as its contract tells no value of what a closure has written.)
 #[cycle(align_of)]
 fn members_once(b: &Table, work: &mut [u8], members: Entries, left: u32) -> Result<Seen, Refusal>
     ensures { once_of result work.new

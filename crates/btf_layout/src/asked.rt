@@ -66,7 +66,7 @@ fn member_off(b: &Table, work: &mut [u8], m: BtfMember) -> Result<bool, Refusal>
     off_by(alignment(b, work, m.type_id)?, m.bit_offset)
 }
 
-// The members in order, up to the first that is off.
+// The members in order, up to the first that is off. (A `for`, for the reason that stands at `members_once`.)
 fn members_packed(b: &Table, work: &mut [u8], t: BtfType) -> Result<bool, Refusal>
     ensures { ask_in result work.new
         ≡ members_in b.now.head.types (btf_of b.now.head b.now.section.now work.old) (members_of b.now.head b.now.section.now t)

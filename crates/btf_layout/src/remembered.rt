@@ -84,15 +84,22 @@ fn count_visits(work: &mut [u8], members: u32)
     put_field(work, 0, cell::VISITS, visits);
 }
 
-// A type is remembered, with the visits of it and of its members; one that no word says is not.
+// A word is remembered of a type, with the visits of it and of its members; 0 is not.
+pub fn remember_word(b: TypeTable, work: &mut [u8], id: u32, v: u32, members: u32)
+    ensures { work.new ≡ remembered b.types id v members work.old }
+{
+    if v == 0 || b.types <= id {
+        return;
+    }
+    count_visits(work, members);
+    put_field(work, id, cell::ALIGNMENT, v);
+}
+
+// A type is remembered; one that no word says is not.
 pub fn remember(b: TypeTable, work: &mut [u8], id: u32, s: Seen, members: u32)
     ensures { work.new ≡ remembered b.types id (coded (seen_is s)) members work.old }
 {
-    let Some(v) = s.word() else {
-        return;
-    };
-    if id < b.types {
-        count_visits(work, members);
-        put_field(work, id, cell::ALIGNMENT, v);
+    if let Some(v) = s.word() {
+        remember_word(b, work, id, v, members);
     }
 }

@@ -23,7 +23,7 @@ fn degree(i: &Index, e: Entry) -> u32
 {
     match e.kind() {
         Kind::Struct | Kind::Union => 0,
-        _ => i.count_at(e),
+        kind => i.count_at(kind, e.place()),
     }
 }
 
@@ -48,7 +48,7 @@ fn pass(i: &Index, st: &[u32], e: Entry, n: u32, from: u32) -> Option<u32>
     ensures { Passes (graph_of i.now.table.head i.now.table.section.now i.now.start.now) st.now
         (id_at i.now.table.head i.now.table.section.now (e.word % 32) (e.word / 32)) n from result }
 {
-    (from..n).find(|k| is_open(i, st, i.id_at(e, *k)))
+    (from..n).find(|k| is_open(i, st, i.id_at(e.kind(), e.place(), *k)))
 }
 
 // One step of the walk: one type more on it, or one less. None: there is a loop. (The stack is a slice and its height d: there is no
@@ -68,7 +68,7 @@ fn turn(i: &Index, st: &mut [u32], stack: &mut [u32], d: usize) -> Option<usize>
         return Some(d - 1);
     };
     st[at] = k + 1;
-    let y = i.id_at(e, k);
+    let y = i.id_at(e.kind(), e.place(), k);
     let next = y as usize;
     if st[next] != NEW {
         return None;
@@ -94,7 +94,8 @@ fn walk(i: &Index, st: &mut [u32], stack: &mut [u32], x: u32) -> bool
     st[at] = 1;
     stack[0] = x;
     let mut d: usize = 1;
-    // A `while`: the chain of open types grows and falls, so no range says the turns.
+    // A `while`: the chain of open types grows and falls, so no range says the turns. (`successors` over `turn` is no plainer: it is
+    // endless, and with `take` it would count besides, only to end.)
     while d > 0 {
         let Some(next) = turn(i, st, stack, d) else {
             return true;

@@ -45,7 +45,7 @@ fn asks(i: &Index, e: Entry) -> u32
     ensures { result ≡ asks_at i.now.table.head i.now.table.section.now (e.word % 32) (e.word / 32) }
 {
     match e.kind() {
-        Kind::Array | Kind::Struct | Kind::Union => i.count_at(e),
+        kind @ (Kind::Array | Kind::Struct | Kind::Union) => i.count_at(kind, e.place()),
         _ => 0,
     }
 }
@@ -83,7 +83,8 @@ fn walk(i: &Index, cell: &mut [Cell], y: u32) -> bool
     let mut z = y;
     let mut m: u32 = 0;
     let mut seen = look(i, cell, z);
-    // A `while`: each turn goes where the last one read that the type leads, and marks it.
+    // A `while`: each turn goes where the last one read that the type leads, and marks it. (`successors` is no plainer: it would hold the
+    // cells lent to `look`, which each turn writes, and it is endless: with `take` it would count besides, only to end.)
     while let Cell::Unknown = seen {
         cell[z as usize] = Cell::Passed;
         z = next(i, z);
@@ -118,7 +119,7 @@ fn asks_of(i: &Index, cell: &mut [Cell], x: u32) -> bool
 {
     let e = i.entry(x);
     for k in 0..asks(i, e) {
-        if ask(i, cell, i.id_at(e, k)) {
+        if ask(i, cell, i.id_at(e.kind(), e.place(), k)) {
             return true;
         }
     }

@@ -20,7 +20,8 @@ pub struct Counts {
     pub enumerators: u32,
 }
 
-// How long an entry with a name is: of members, parameters and enumerators.
+// How long an entry with a name is: of members, parameters and enumerators. (Not by `extra_of`: by that a DATASEC's entries, which have no
+// name, are 12 bytes long too.)
 fn named_entry(info: u32) -> Option<u32>
     ensures { result ≡ entry_width (kind_named (kind_of info)) }
 {
@@ -81,7 +82,7 @@ impl Area<'_> {
         if info / 65536 % 256 != 0 || info / 536870912 % 4 != 0 {
             return None;
         }
-        let n = extra_of(info)?;
+        let n = extra_of(Kind::of(info), vlen_of(info))?;
         if left < n || !self.are_record_names_inside(at, info) {
             return None;
         }

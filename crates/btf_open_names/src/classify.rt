@@ -7,7 +7,7 @@ ghost use Rattle.btf_open_names.specs.keys.Keys.{key_list};
 ghost use Rattle.btf_open_names.specs.name_classes.Table.{HoldersReady, HolderFinds, holder_placed};
 
 use crate::holders::{Holders, Links};
-use crate::keys::{Key, load_key};
+use crate::keys::{Key, load_key, same_key};
 use btf_type_table::cell;
 use btf_type_table::table::Table;
 
@@ -27,7 +27,7 @@ fn find(all: &Holders, work: &[u8], h: u32, bucket: u32, key: Key) -> u32
     // A `while` that ends because the links fall. (`successors` is endless: with `take` it would count besides, only to end.)
     while l != 0 {
         let c = l - 1;
-        if key.is_same(all.table.section, load_key(&all.table, work, c)) {
+        if same_key(all.table.section, load_key(&all.table, work, c), Some(key)) {
             return c;
         }
         l = cell::CLASS_LINK.get(work, all.table.head.types, c);

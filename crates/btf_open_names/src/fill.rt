@@ -1,6 +1,6 @@
 // What success leaves in the work: the places of records and enumerators, the tags of each type, the name classes.
 ghost use Rattle.std.specs.Prelude.{◌≡◌, ◌+◌, ◌-◌, ◌/◌, ◌%◌, ◌<◌, get_or};
-ghost use Rattle.btf_open_names.specs.filled_work.Left.{places_put, value_place, enumerator_word, values_put, enum_with, values_at};
+ghost use Rattle.btf_open_names.specs.filled_work.Left.{places_put, enumerator_word, values_put, enum_with, values_at};
 ghost use Rattle.btf_open_names.specs.filled_work.Left.{tag_put};
 ghost use Rattle.btf_open_names.specs.filled_work.Left.{enums_put, tags_put, filled};
 
@@ -11,7 +11,7 @@ use base_bytes::word::put_word;
 use btf_open_causes::references::{Entry, Index};
 use btf_type_table::cell;
 use btf_type_table::cell::{get_field, put_field};
-use btf_type_table::kind::{member_place, param_place, vlen_of};
+use btf_type_table::kind::{value_place, vlen_of};
 use btf_type_table::table::Table;
 use spec_type_table::Kind;
 
@@ -34,17 +34,6 @@ fn fill_places(i: &Index, work: &mut [u8])
     }
 }
 
-// The place of value k of an enum.
-fn value_place(e: Entry, k: u16) -> u32
-    ensures { result ≡ value_place (e.word % 32) (e.word / 32) k }
-{
-    let at = e.place();
-    match e.kind() {
-        Kind::Enum64 => member_place(at, k as u32) as u32,
-        _ => param_place(at, k as u32) as u32,
-    }
-}
-
 // The first word of an enumerator. (Not `HolderWord::place`: that one takes holders of 32 bits, and here no test has shown yet that all
 // can be numbered.)
 fn enumerator_word(types: u32, e: u64) -> usize
@@ -59,11 +48,12 @@ fn fill_values(types: u32, e: Entry, n: u16, first: u64, work: &mut [u8])
     requires { first < 281474976710656 }
     ensures { work.new ≡ values_put types (e.word % 32) (e.word / 32) first work.old n }
 {
+    let (wide, at) = (e.kind() == Kind::Enum64, e.place());
     for k in 0..n {
         put_word(
             work,
             enumerator_word(types, first + (k as u64)),
-            value_place(e, k),
+            value_place(wide, at, k as u32) as u32,
         );
     }
 }

@@ -2,9 +2,10 @@
 // Holder h is type h below the number of types, and after those an enumerator. (It is not the table of `classify`, which has the first
 // holder of each name alone, in falling order, and is searched while it grows.)
 ghost use Rattle.std.specs.Prelude.{◌≡◌, ◌-◌, ◌<◌};
-ghost use Rattle.btf_open_names.specs.hash_table.Hashed.{put_first, has_room, table_in};
+ghost use Rattle.btf_open_names.specs.name_classes.Classes.{noughts};
+ghost use Rattle.btf_open_names.specs.hash_table.Hashed.{over, put_first, has_room, table_in};
 
-use crate::holders::{Holders, Links};
+use crate::holders::{Holders, Links, clear};
 use crate::keys::load_key;
 use btf_type_table::cell;
 use btf_type_table::table::Table;
@@ -60,4 +61,12 @@ pub fn make_table(b: &Table, enumerators: u32, work: &mut [u8]) -> bool
         Some(all) => put_table(&all, work),
         None => false,
     }
+}
+
+// Sets both words of the first n holders to 0.
+pub fn clear_table(work: &mut [u8], types: u32, n: u32)
+    ensures { work.new ≡ over types n noughts noughts work.old }
+{
+    clear(work, types, n, cell::TABLE_LINK);
+    clear(work, types, n, cell::TABLE_BUCKET);
 }

@@ -10,7 +10,17 @@ use btf_type_table::cell;
 use btf_type_table::cell::HolderWord;
 use btf_type_table::table::Table;
 
-// The holders of names of a table: its types, and after those its enumerators, n in all.
+// Sets a word of each of the first n holders to 0.
+pub fn clear(work: &mut [u8], types: u32, n: u32, word: HolderWord)
+    ensures { work.new ≡ fill (place_of types word.of_type word.of_value) noughts work.old n }
+{
+    for k in 0..n {
+        word.put(work, types, k, 0);
+    }
+}
+
+// The holders of names of a table: its types, and after those its enumerators, n in all. (That a holder is below n is asked by four
+// functions: each takes it from a range up to n, and no type of a number has a bound that a value gives.)
 #[derive(Clone, Copy)]
 pub struct Holders<'a> {
     pub table: Table<'a>,
@@ -42,9 +52,7 @@ impl<'a> Holders<'a> {
     pub fn clear(&self, work: &mut [u8], word: HolderWord)
         ensures { work.new ≡ fill (place_of self.now.table.head.types word.of_type word.of_value) noughts work.old self.now.n }
     {
-        for k in 0..self.n {
-            word.put(work, self.table.head.types, k, 0);
-        }
+        clear(work, self.table.head.types, self.n, word);
     }
 
     // Whether a word of each is 0.
@@ -63,6 +71,8 @@ pub struct Links {
     pub next: HolderWord,
 }
 
+// (Here and at `HolderWord` the work and the count of types go together. A struct that holds the `&mut` is no plainer: each function owes
+// a clause more, that the field keeps its reference.)
 impl Links {
     // Puts holder h in front of list i, where v is written for it.
     pub fn put_in_front(self, work: &mut [u8], types: u32, i: u32, h: u32, v: u32)

@@ -2,5 +2,5 @@
 mod hash;
 mod keys;
 
-pub use crate::keys::hash::hash_name;
-pub use crate::keys::keys::{Key, Space, load_key};
+pub use crate::keys::hash::{hash_name, hash_step};
+pub use crate::keys::keys::{Key, Space, load_key, same_key};

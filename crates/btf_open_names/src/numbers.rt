@@ -53,7 +53,8 @@ impl Taken<'_> {
     {
         let mut n = k;
         let mut m = self.step(k, k);
-        // A `while`: until a number is reached that no other takes.
+        // A `while`: until a number is reached that no other takes. (`successors` with `find` is no plainer: it asks `step` twice of each
+        // number, and ends in an `unwrap` of what is never None.)
         while n < m {
             n = m;
             m = self.step(k, n);

@@ -2,5 +2,5 @@
 mod bases;
 mod suffix;
 
-pub use crate::suffixes::bases::{Base, base_at, base_of};
+pub use crate::suffixes::bases::{Base, base_at, base_of, key_suffix};
 pub use crate::suffixes::suffix::{has_suffix, hash_before};

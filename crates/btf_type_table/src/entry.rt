@@ -9,8 +9,11 @@ use crate::table::Table;
 use base_bytes::limit;
 use spec_type_table::{BtfMember, BtfType, Entries};
 
+// btf_member: with kind_flag the last word is 24 bits of offset and 8 bits of size.
+const OFFSETS: u32 = 1 << 24;
+
 impl Table<'_> {
-    // btf_member: with kind_flag the last word is 24 bits of offset and 8 bits of size.
+    // Member k.
     pub fn load_member(&self, t: BtfType, k: u32) -> BtfMember
         ensures { result ≡ member_of self.now.head self.now.section.now t k }
     {
@@ -19,8 +22,8 @@ impl Table<'_> {
             return BtfMember {
                 name_off,
                 type_id,
-                bit_offset: offset % 16777216,
-                bit_size: offset / 16777216,
+                bit_offset: offset % OFFSETS,
+                bit_size: offset / OFFSETS,
             };
         }
         BtfMember {

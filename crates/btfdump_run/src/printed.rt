@@ -12,7 +12,14 @@ use base_bytes::refusal::Refusal;
 pub fn put_refused(text: &mut [u8], refusal: Refusal) -> Option<usize>
     ensures { shown_to result text.new ≡ line_shown text.old (refusal_number refusal) }
 {
-    if let Ok(len) = put_line(text, u32::from(refusal)) {
+    put_refused_number(text, u32::from(refusal))
+}
+
+// The same line by its number, of a refusal or any other.
+pub fn put_refused_number(text: &mut [u8], number: u32) -> Option<usize>
+    ensures { shown_to result text.new ≡ line_shown text.old number }
+{
+    if let Ok(len) = put_line(text, number) {
         return Some(len);
     }
     text.fill(0);

@@ -7,7 +7,7 @@ ghost use Rattle.spec_c_dumper.specs.rules.Decl.{enum_value, enum64_value, emit_
 ghost use Rattle.spec_type_table.specs.Names.{str_at};
 ghost use Rattle.spec_type_table.specs.Records.{flag_of};
 ghost use Rattle.spec_type_table.specs.Table.{btf_of, work_naming};
-ghost use Rattle.c_dumper_bodies.specs.enums.Widths.{is_wide, value_at, value_text, enumerator_at, enum_values};
+ghost use Rattle.c_dumper_bodies.specs.enums.Widths.{is_wide, value_text, enumerator_at, enum_values};
 
 use crate::enumerators::{deeper, emit_enum_end, emit_enum_head, emit_enumerator};
 use base_bytes::put::{put_byte, put_bytes, put_decimal};
@@ -16,7 +16,7 @@ use base_keywords::signed_decimal::{put_i32, put_i64};
 use base_keywords::table::{Word, put_word};
 use btf_type_table::cell;
 use btf_type_table::cell::get_field;
-use btf_type_table::kind::{entries_of, kind_flag_of, member_place, param_place};
+use btf_type_table::kind::{entries_of, kind_flag_of, value_place};
 use btf_type_table::node::TypeRef;
 use btf_type_table::table::Table;
 use spec_type_table::{BtfType, Entries, Kind};
@@ -27,16 +27,6 @@ fn is_wide(t: BtfType) -> bool
     ensures { result ≡ is_wide t }
 {
     Kind::of(t.info) == Kind::Enum64
-}
-
-// The place of value k: a struct btf_enum64 or a struct btf_enum. (No From: what it takes are three values.)
-fn value_place(values: Entries, wide: bool, k: u32) -> usize
-    ensures { result ≡ value_at wide values.at k }
-{
-    if wide {
-        return member_place(values.at, k);
-    }
-    param_place(values.at, k)
 }
 
 // value_str of an ENUM.
@@ -100,7 +90,7 @@ fn emit_values(
     let first = get_field(work, x.id, cell::FIRST_ENUMERATOR);
     let mut p = at;
     for k in 0..values.vlen {
-        let name_off = b.word(value_place(values, wide, k));
+        let name_off = b.word(value_place(wide, values.at, k));
         let e = first.saturating_add(k);
         let a = emit_enumerator(b, work, text, p, e, name_off, lvl)?;
         let c = emit_value(b, text, a, wide, is_signed, values, k)?;

@@ -15,7 +15,7 @@ use spec_type_table::Kind;
 pub fn put_qualifier(text: &mut [u8], at: usize, kind: Kind) -> Result<usize, Refusal>
     ensures { put_out result text.new ≡ put_text text.old (Ok at) (whole (qualifier (qualifier_of kind))) }
 {
-    // (No From: of the Kinds only three are Words.)
+    // (No TryFrom<Kind>: the contract has `restrict` for every other kind too, so nothing would be refused.)
     let word = match kind {
         Kind::Volatile => Word::Volatile,
         Kind::Const => Word::Const,

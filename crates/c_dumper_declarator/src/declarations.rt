@@ -1,6 +1,6 @@
 // Declarations, their chains and the bodies of composites, which call each other. `left` is how many more calls of
 // emit_type_decl, emit_based, emit_type_chain and emit_composite_def may be open; `below` is that for the calls within one of them.
-// (LeadOn is asked by each: the records of a chain stand in the section and the work, which is written here, so no type can say it.)
+// (LeadOn is asked by each, since memory is fixed: a chain stands in the lent work, which is written here, so no type can say it.)
 mod members;
 
 ghost use Rattle.spec_bytes.specs.text.Placed.{placed};
@@ -38,7 +38,9 @@ use c_dumper_name_versions::forwards::{emit_composite_fwd, emit_fwd_def};
 use c_dumper_name_versions::names::{Name, emit_name};
 use spec_type_table::{BtfType, Entries, Kind};
 
-// What is declared: the type that the chain starts from, the declared name, and the level of indentation.
+// What is declared: the type that the chain starts from, the declared name, and the level of indentation. (The calls left stand beside it,
+// and beside a level, as in the definitions: a chain, a body and a parameter each begin with one call less, where the rest stays or is
+// another, so that a struct of both would be taken apart at each.)
 #[derive(Clone, Copy)]
 pub struct Declarator {
     pub id: u32,
@@ -164,7 +166,8 @@ fn emit_links(
 {
     let mut p = at;
     let mut rest = c;
-    // A `while`: an entry says how many are left, since a function or an array takes some with it.
+    // A `while`: each entry says how many are left, since an array or a function takes the rest and a type tag the qualifiers under it. A
+    // chain is no plainer: it would count by the same number, in a closure that writes the text and may be refused.
     while 0 < rest.n {
         let e = emit_entry(b, work, text, p, d, rest, below)?;
         p = e.at;
@@ -329,7 +332,7 @@ fn emit_composite_word(
 }
 
 // What stands before the brackets of an array: the name, or the chain that is left. (It ends as emit_proto does, by two calls; shared, they
-// would be one more function that takes all that these take.)
+// would be no plainer: one more function that takes all that these take.)
 #[cycle(declarator)]
 fn emit_array(
     b: &Table,

@@ -11,7 +11,8 @@ use btf_type_table::cell;
 use spec_type_table::Kind;
 
 impl Orderer<'_> {
-    // One more call: counted under a ceiling, and refused where it would pass it.
+    // One more call: counted under a ceiling, and refused where it would pass it. (A match: by map and map_err two closures would each
+    // take the order.)
     pub fn count_call(&self, o: Order) -> Result<Order, Halted>
         ensures { result ≡ opened_by (limit_of self.now.ceiling) o }
     {

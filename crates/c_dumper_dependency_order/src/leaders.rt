@@ -1,5 +1,5 @@
-// The leaders of the ids that ordering lists: one for each id, beside the work. They are lent as a slice, written, and after a refusal
-// nothing is told of them: of an owned struct no invariant would hold then, and without a list the slice is empty.
+// The leaders of the ids that ordering lists: one for each id, beside the work, in a slice that is lent (fixed memory), and empty without
+// a list. A struct of them would be no plainer: after a refusal nothing is told of them, so no invariant of it would hold.
 ghost use Rattle.std.specs.Prelude.{◌≡◌};
 ghost use Rattle.c_dumper_dependency_order.specs.leaders.Leads.{lead_words, led_two, inside_of, is_noted, note_in, leader_in};
 
@@ -13,8 +13,8 @@ pub struct Lead {
 }
 
 impl Lead {
-    // Requests with a list have the turns from 1 on: none has noted this. An Option<Lead> is 12 bytes in place of 8, one megabyte more
-    // of the stack for 262,145 ids; one of a NonZeroU32 is 8, but then a caller could no longer ask for turn 0.
+    // None has noted this: requests with a list have the turns from 1 on. Fixed memory needs it: a leader is two words for each id, and an
+    // Option would be a third. (Of a NonZeroU32 it would not, but a caller could no longer ask for turn 0.)
     pub const NONE: Lead = Lead { turn: 0, lead: 0 };
 }
 

@@ -152,8 +152,8 @@ impl Orderer<'_> {
         Ok(finish(work, leads, r, x.id, named, step.way))
     }
 
-    // The types of entries in order; the way is strong if one of them was, or what came before. (A `for`: of a closure that writes
-    // the work try_fold's contract tells no value after the calls.)
+    // The types of entries in order; the way is strong if one of them was, or what came before. (A `for`: try_fold was tried, and the
+    // proof did not close: no clause of try_fold speaks of the work and the leaders as its closure leaves them.)
     #[cycle(order_type)]
     fn order_entries(
         &self,
@@ -173,7 +173,7 @@ impl Orderer<'_> {
         for k in 0..entries.count() {
             let t = entries.entry_type(&self.table, k);
             let p = self.order_next(work, leads, r, t, step)?;
-            // `|`: by `||` the proof would go two ways to one equation.
+            // `||` is no plainer here: the proof would go two ways to one equation.
             r = p.strong(r.is_strong | p.is_strong);
         }
         Ok(r)

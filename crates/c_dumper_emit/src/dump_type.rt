@@ -44,7 +44,7 @@ pub fn is_idle(b: &Table, work: &[u8], id: u32) -> bool
 }
 
 // The requested id, which request of the call it is, and whether the call is lent a list of entries. Without one the list and the
-// leaders are empty slices: an Option of them, lent `&mut`, would be lent anew in each function of the walk.
+// leaders are empty slices: an Option of them is no plainer: lent `&mut`, it would be lent anew in each function of the walk.
 #[derive(Clone, Copy)]
 pub struct Request {
     pub req: u32,
@@ -53,7 +53,7 @@ pub struct Request {
 }
 
 // Where a request came to: the place after its text and the count of entries after it, or the refusal that stopped it; and the calls of
-// ordering made by then.
+// ordering made by then. (No Result around both: the calls made count after a refusal too.)
 #[derive(Clone, Copy)]
 pub struct Dumped {
     pub pen: Result<Pen, Refusal>,

@@ -3,8 +3,8 @@ use crate::dump_type::Request;
 use btf_type_table::table::Table;
 use c_dumper_dependency_order::leaders::Lead;
 
-// The table, the request, and the leaders that ordering noted for it. What emission writes (work, text, list, and the pen in them) stays
-// beside it: a struct that holds the `&mut` owes each function a clause more, that the field keeps its reference.
+// The table, the request, and the leaders that ordering noted for it. What emission writes (work, text, list, and the pen in them) is no
+// plainer in it: a struct that holds the `&mut` owes each function a clause more, that the field keeps its reference.
 #[derive(Clone, Copy)]
 pub struct Emission<'a> {
     pub table: Table<'a>,

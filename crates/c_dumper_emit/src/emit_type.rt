@@ -1,6 +1,6 @@
 // Emission: which lines a listed id brings, and their order; each with its entry where the call is lent a list. The steps that go on to
-// no other id are in steps. (IsLoaded is asked by three: the work, which is written here, tells where an id's record stands, so no type
-// can say it.)
+// no other id are in steps. (IsLoaded is asked by three, since memory is fixed: the lent work, which is written here, tells where an id's
+// record stands, so no type can say it.)
 ghost use Rattle.std.specs.Prelude.{◌≡◌, not, ◌&&◌, eqb, ℕ, Ok};
 ghost use Rattle.spec_c_dumper.specs.rules.Machine.{obind, eeach};
 ghost use Rattle.spec_c_dumper.specs.rules.Order.{is_done};
@@ -33,8 +33,9 @@ fn is_emitted(work: &[u8], id: u32, left: u32) -> bool
 }
 
 impl Emission<'_> {
-    // cont is the composite or typedef that is being emitted around id, or 0 at the top: a number, as in the Rust (`cont_id`) and in the
-    // definition of emission.
+    // cont is the composite or typedef that is being emitted around id, or 0 at the top: a number, as in the Rust (`cont_id`). An Option
+    // is no plainer: the definition of emission has the number too, so each clause would take it apart. (cont and left are no struct: at
+    // each step one of them stays as it is, and what prints a line takes cont alone.)
     #[cycle(emit_type)]
     pub fn emit_type(
         &self,
@@ -162,7 +163,7 @@ impl Emission<'_> {
     }
 
     // An enum is defined at the top only; a forward is printed wherever it is met (`fwd` is the flag of the node in the rule). The three
-    // lines that define and mark are those of end_composite too: the entries differ, and one function would have a contract as long.
+    // lines that define and mark are those of end_composite too: one function of both is no plainer, as long as its contract would be.
     fn emit_leaf(
         &self,
         work: &mut [u8],

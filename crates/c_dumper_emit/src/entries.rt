@@ -2,18 +2,21 @@
 ghost use Rattle.std.specs.Prelude.{◌≡◌, List, ℕ, ◌<◌, ◌/◌, length, Ok};
 ghost use Rattle.spec_c_dumper.specs.rules.Machine.{obind};
 ghost use Rattle.spec_c_dumper.specs.origins.Causes.{entry, cause_at, entries_in};
+ghost use Rattle.spec_type_table.specs.Table.{type_of};
 ghost use Rattle.c_dumper_dependency_order.specs.leaders.Leads.{lead_words, entry_in};
-ghost use Rattle.c_dumper_emit.specs.entries.Noted.{cause_code, entry_of, entry_put, noted_out, note_n, note_if_n};
+ghost use Rattle.c_dumper_emit.specs.entries.Noted.{cause_code, entry_of, entry_put, noted_out, note_n, note_if_n, shown_of};
 
 use crate::emission::Emission;
 use base_bytes::refusal::Refusal;
 use base_bytes::word::put_word;
+use btf_type_table::table::Table;
 use c_dumper_dependency_order::leaders::leader_of;
+use spec_type_table::BtfType;
 
 // An entry of the lent list.
 const ENTRY_WORDS: usize = 3;
 
-const ENTRY_BYTES: usize = 4 * ENTRY_WORDS;
+pub const ENTRY_BYTES: usize = 4 * ENTRY_WORDS;
 
 // The next place in the text, and how many entries the list has.
 #[derive(Clone, Copy)]
@@ -93,25 +96,25 @@ pub fn forward_origin(id: u32, cont: u32) -> Origin
     }
 }
 
-fn put_entry(list: &mut [u8], k: usize, e: Origin)
+fn put_entry(list: &mut [u8], k: usize, id: u32, cause: u32, leader: u32)
     requires { k < length list.old / 12 }
-    ensures { list.new ≡ entry_put list.old k e }
+    ensures { list.new ≡ entry_put list.old k (entry id cause leader) }
 {
     let at = k * ENTRY_WORDS;
-    put_word(list, at, e.id);
-    put_word(list, at + 1, u32::from(e.cause));
-    put_word(list, at + 2, e.leader);
+    put_word(list, at, id);
+    put_word(list, at + 1, cause);
+    put_word(list, at + 2, leader);
 }
 
-// One more entry, or 17.
-fn note(list: &mut [u8], p: Pen, e: Origin) -> Result<Pen, Refusal>
+// One more entry, whatever the number of its cause, or 17.
+pub fn note(list: &mut [u8], p: Pen, id: u32, cause: u32, leader: u32) -> Result<Pen, Refusal>
     ensures { (n : ℕ) (t w : List ℕ) → noted_out n result t w list.new
-        ≡ obind (noted_out n (Ok p) t w list.old) (λ m. note_n (entries_in list.old) (entry_of e) m) }
+        ≡ obind (noted_out n (Ok p) t w list.old) (λ m. note_n (entries_in list.old) (entry id cause leader) m) }
 {
     if list.len() / ENTRY_BYTES <= p.count {
         return Err(Refusal::TextFull);
     }
-    put_entry(list, p.count, e);
+    put_entry(list, p.count, id, cause, leader);
     Ok(Pen {
         count: p.count + 1,
         ..p
@@ -125,7 +128,17 @@ pub fn note_if(list: &mut [u8], p: Pen, e: Origin, shown: bool) -> Result<Pen, R
         (λ m. note_if_n shown (entries_in list.old) (entry_of e) m) }
 {
     if shown {
-        return note(list, p, e);
+        return note(list, p, e.id, u32::from(e.cause), e.leader);
     }
     Ok(p)
+}
+
+// Whether the forward line or the typedef of a type prints anything: that of the compiler's own type does not.
+pub fn is_shown(b: &Table, t: BtfType) -> bool
+    ensures { result ≡ shown_of (type_of b.now.head b.now.section.now t) }
+{
+    if b.is_named(t) {
+        return !b.is_builtin(t.name_off);
+    }
+    true
 }

@@ -7,7 +7,7 @@ ghost use Rattle.spec_type_table.specs.Table.{type_of, btf_of, work_naming};
 ghost use Rattle.c_dumper_emit.specs.entries.Noted.{entry_of, noted_out, lent_list, line_n, shown_of};
 
 use crate::emission::Emission;
-use crate::entries::{Origin, Pen, note_if};
+use crate::entries::{Origin, Pen, is_shown, note_if};
 use base_bytes::refusal::Refusal;
 use btf_type_table::node::TypeRef;
 use c_dumper_declarator::lines::{emit_definition, emit_forward};
@@ -37,29 +37,19 @@ impl Emission<'_> {
         Ok(Pen { at: a, ..q })
     }
 
-    // Whether the forward line or the typedef of a type prints anything: that of the compiler's own type does not.
-    fn is_shown(&self, t: BtfType) -> bool
-        ensures { result ≡ shown_of (type_of self.now.table.head self.now.table.section.now t) }
-    {
-        if self.table.is_named(t) {
-            return !self.table.is_builtin(t.name_off);
-        }
-        true
-    }
-
     // Whether it has an entry.
     fn is_listed(&self, t: BtfType) -> bool
         ensures { result ≡ self.now.request.lists
             && shown_of (type_of self.now.table.head self.now.table.section.now t) }
     {
         if self.request.lists {
-            return self.is_shown(t);
+            return is_shown(&self.table, t);
         }
         false
     }
 
     // A composite's forward line or a typedef, with its entry if it prints anything. It differs from `define` in its writer, and in
-    // when there is an entry: one function of both would branch twice.
+    // when there is an entry: one function of both is no plainer, since it would branch twice.
     pub fn forward(
         &self,
         work: &mut [u8],

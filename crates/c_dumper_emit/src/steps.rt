@@ -19,6 +19,7 @@ use btf_type_table::node::TypeRef;
 use c_dumper_dependency_order::order_state::{Mark, set_mark};
 use spec_type_table::Kind;
 
+// Whether the forward line of a type is printed. (Fixed memory: 0 or 1 in a word of the lent work.)
 fn get_fwd_emitted(work: &[u8], id: u32) -> bool
     ensures { result ≡ not (eqb (get_field work.now id 3) 0) }
 {

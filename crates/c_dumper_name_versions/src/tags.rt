@@ -30,8 +30,8 @@ fn put_tag_name(text: &mut [u8], at: usize, is_decl: bool) -> Result<usize, Refu
     put_word(text, at, Word::TypeTag)
 }
 
-// What a tag prints: its name as an attribute of its own, or in the attribute of its kind. (`is_decl` is told, not read from t:
-// put_type_tag promises its word for each record, of whatever kind.)
+// What a tag prints: its name as an attribute of its own, or in the attribute of its kind. (`is_decl` is told, not read from t: by
+// the project's rule no promise says less, and put_type_tag's is of each record, of whatever kind.)
 pub fn put_attribute(
     b: &Table,
     text: &mut [u8],
@@ -96,8 +96,8 @@ fn emit_tag_list(
     let mut p = at;
     let mut last: u32 = 0;
     let mut tag = get_field(work, id, cell::FIRST_TAG);
-    // A `while`: a list in the lent work goes by its links. (Not `successors`: `for` asks that what remains is finite, and std says
-    // of that one that it is endless.)
+    // A `while`: a list in the lent work goes by its links. By `successors` it is no plainer: that is endless for std, so a `take` would
+    // count besides, only to end.
     while last < tag {
         if b.head.types <= tag {
             return Ok(p);

@@ -15,8 +15,8 @@ use btf_type_table::kind::vlen_of;
 use btf_type_table::table::Table;
 use spec_type_table::{BtfMember, BtfType};
 
-// What the members reach, a struct's last end or a union's largest member, and whether all of them fit. (The rules keep both: with an
-// Option of what is reached, none after a misfit, the equation of extent_of would say less than it does.)
+// What the members reach, a struct's last end or a union's largest member, and whether all of them fit. (Both, by the project's
+// rule that no promise says less: with an Option, none after a misfit, extent_of would not say what the members behind it reach.)
 #[derive(Clone, Copy)]
 pub struct Extent {
     pub last: u32,

@@ -11,7 +11,7 @@ use base_bytes::put::{put_byte, put_bytes, put_decimal, put_tabs};
 use base_bytes::refusal::Refusal;
 use base_keywords::table::{Word, put_word};
 
-// (The word of a unit is asked for here alone.)
+// (No From for the word of a unit: the match would stand there, with a contract of its own, and this would be its one call.)
 fn put_unit(text: &mut [u8], at: usize, unit: Unit) -> Result<usize, Refusal>
     ensures { put_out result text.new ≡ put_text text.old (Ok at) (whole (unit_word (unit_of unit))) }
 {
@@ -35,8 +35,8 @@ fn put_pad(text: &mut [u8], at: usize, pad: Pad, lvl: u32) -> Result<usize, Refu
     put_byte(text, f, b';')
 }
 
-// The pads of a gap from one bit to another. (A while: each pad says where the next one starts. The mode is asked at each pad: chosen
-// once, the loop would stand here twice, or take a closure for a test of one bit.)
+// The pads of a gap from one bit to another. (A `while`: each pad says where the next one starts, and a chain by `successors`, endless for
+// std, is no plainer. Nor is the mode chosen once: the loop would stand here twice, or take a closure for a test of one bit.)
 pub fn put_pads(
     text: &mut [u8],
     at: usize,

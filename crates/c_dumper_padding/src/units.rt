@@ -52,7 +52,7 @@ fn short_pad(gap: u64) -> Pad
 }
 
 // The next pad of a gap: the widest unit that the gap passes; the odd part of the gap comes first.
-fn pad_of(ptr_sz: u32, gap: u64) -> Pad
+pub fn pad_of(ptr_sz: u32, gap: u64) -> Pad
     ensures { pad_is result ≡ pad_of ptr_sz gap }
 {
     if gap <= 32 {
@@ -89,7 +89,7 @@ const PLACED: [(u32, Unit, u64); 6] = [
 ];
 
 // The next pad of placing mode: the widest unit whose start is a multiple of its width and that still fits the gap.
-fn placed_pad(ptr_sz: u32, start: u64, gap: u64) -> Pad
+pub fn placed_pad(ptr_sz: u32, start: u64, gap: u64) -> Pad
     ensures { pad_is result ≡ placed_pad ptr_sz start gap }
 {
     let from = if ptr_sz == 8 { 0 } else { 1 };

@@ -10,7 +10,6 @@ ghost use Rattle.session_cut.specs.call.Calls.{cut_of, cut_call};
 
 use crate::writer::write_kept;
 use base_bytes::limit;
-use base_bytes::word::get_word;
 use btf_open::causes::index_records;
 use btf_open_causes::header::btf_of;
 use btf_open_causes::references::Index;
@@ -30,12 +29,12 @@ fn is_open(s: Session, len: usize) -> bool
     s.section_len == len as u64
 }
 
-// Whether a given id is not below the count. (By index, as the definition has it: by as_chunks, tried, each piece needs
-// from_le_bytes, and the proof a law that the pieces are the words that get_word reads.)
+// Whether a given id, of four bytes, is not below the count.
 fn is_past(given: &[u8], count: u32) -> bool
     ensures { result ≡ any_past count (words given.now) }
 {
-    (0..given.len() / 4).any(|k| count <= get_word(given, k))
+    let ids = given.as_chunks::<4>().0;
+    ids.iter().any(|id| count <= u32::from_le_bytes(*id))
 }
 
 // The new section, of a table and its index: its length.
@@ -60,9 +59,9 @@ pub fn cut(s: Session, section: &[u8], given: &[u8], out: &mut [u8]) -> Result<u
         return Err(Refusal::SessionClosed);
     }
     let mut start = [0u32; limit::TYPES_LEN];
-    let Ok(counts) = index_records(section, s.pointer_size, &mut start) else {
-        return Err(Refusal::SessionClosed);
-    };
+    let counts = index_records(section, s.pointer_size, &mut start).map_err(
+        |_| Refusal::SessionClosed,
+    )?;
     if is_past(given, counts.types) {
         return Err(Refusal::NoSuchId);
     }

@@ -10,7 +10,6 @@ ghost use Rattle.session_cut_marks.specs.kept.AtKept.{at_index};
 use crate::tags::{mark_tags, number};
 use base_bytes::element::peek;
 use base_bytes::limit;
-use base_bytes::word::get_word;
 use btf_open_causes::references::Index;
 
 // The marks, and the ids that have one and whose references are still to be followed: the first `height` of the stack. (No Vec: fixed
@@ -23,8 +22,8 @@ struct Marking<'a> {
 }
 
 impl Marking<'_> {
-    // Marks y and puts it on the stack, if it has no mark; void has none. (By index: with peek or store on a field that is a reference the
-    // proof of what the field has afterwards did not close.)
+    // Marks y and puts it on the stack, if it has no mark; void has none. (Tests each place itself: tried with peek and store on a field
+    // that is a reference, and the proof of what the field has afterwards did not close.)
     fn push(&mut self, y: u32)
         ensures turned { heap_of self.new ≡ pushed (heap_of self.old) y }
         ensures same { SameSlices self.old self.new }
@@ -55,8 +54,8 @@ impl Marking<'_> {
         ensures same { SameSlices self.old self.new }
     {
         let e = index.entry(x);
-        for k in 0..index.count_at(e) {
-            self.push(index.id_at(e, k));
+        for k in 0..index.count_at(e.kind(), e.place()) {
+            self.push(index.id_at(e.kind(), e.place(), k));
         }
     }
 
@@ -72,7 +71,7 @@ impl Marking<'_> {
         ensures turned { heap_of self.new ≡ at_index closed index.now (weight (heap_of self.old)) (heap_of self.old) }
         ensures same { SameSlices self.old self.new }
     {
-        // A `while`: the stack falls and grows, so no range says the turns.
+        // A `while`: a `for` is no plainer, since the stack falls and grows, and no range says the turns.
         while self.height > 0 {
             let top = self.height - 1;
             let x = self.stacked(top);
@@ -81,14 +80,14 @@ impl Marking<'_> {
         }
     }
 
-    // The given ids, four bytes each, least significant first. (By index, as the definition has it: see `is_past` of session_cut.)
+    // The given ids, four bytes each, least significant first.
     fn push_given(&mut self, given: &[u8])
         ensures turned { heap_of self.new
             ≡ pushed_to (get_word given.now) (heap_of self.old) (length given.now / 4) }
         ensures same { SameSlices self.old self.new }
     {
-        for k in 0..given.len() / 4 {
-            self.push(get_word(given, k));
+        for id in given.as_chunks::<4>().0 {
+            self.push(u32::from_le_bytes(*id));
         }
     }
 }

@@ -1,11 +1,12 @@
 // The words of a record, by its kind.
-ghost use Rattle.std.specs.Prelude.{◌≡◌, ◌+◌, ◌%◌};
-ghost use Rattle.session_cut_marks.specs.roles.Words.{fixed_words, entry_words, role, role_of, words_in, word_of};
+ghost use Rattle.std.specs.Prelude.{◌≡◌, ◌+◌, ◌*◌, ◌%◌};
+ghost use Rattle.session_cut_marks.specs.roles.Words.{digit_at, fixed_words, entry_words, roles, role, role_of, words_in, word_of};
 
+use base_bytes::element::peek;
 use btf_open_causes::references::Entry;
 use btf_type_table::kind::vlen_of;
 use btf_type_table::table::Table;
-use spec_type_table::Kind;
+use spec_type_table::{KINDS, Kind};
 
 // The words that every record of its kind has. (Not by btf_type_table's `extra_of`: that tells bytes by the kind of an info word, and none
 // for void and where there is no such kind. Here the kind is the entry's, and the words of those two are 3 and 0.)
@@ -68,6 +69,25 @@ fn type_role(e: Entry) -> Role
     }
 }
 
+// A row for each kind 0 to 19: what its first six words are, 1 a name and 2 an id.
+const ROWS: &[u8] =
+    b"000000100000102000100220100120100120100100100000102000102000102000102000102000102120102000100200100000102000102000100100";
+
+const WORDS_OF_ROW: usize = 6;
+
+// Word k of what follows the first three, of a record without entries. (By the rows and not by kind: such a record has six words at most,
+// and of a word past them the definition says what the rows of the next kinds have.)
+fn row_role(e: Entry, k: u32) -> Role
+    ensures { result ≡ role_of (digit_at roles (e.word % 32 * 6 + (3 + k))) }
+{
+    let row = ((e.word % KINDS) as usize) * WORDS_OF_ROW;
+    match peek(ROWS, row + (3 + (k as usize)), b'0') {
+        b'1' => Role::Name,
+        b'2' => Role::Id,
+        _ => Role::Plain,
+    }
+}
+
 // Word k of what follows the first three: entries of two or three words repeat.
 #[inline]
 fn entry_role(e: Entry, k: u32) -> Role
@@ -91,15 +111,11 @@ fn entry_role(e: Entry, k: u32) -> Role
             0 => Role::Name,
             _ => Role::Plain,
         },
-        Kind::Array => match k % 3 {
-            2 => Role::Plain,
-            _ => Role::Id,
-        },
         Kind::Datasec => match k % 3 {
             0 => Role::Id,
             _ => Role::Plain,
         },
-        _ => Role::Plain,
+        _ => row_role(e, k),
     }
 }
 

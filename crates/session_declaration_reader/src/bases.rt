@@ -1,11 +1,11 @@
 // Qualifiers and bases of a declaration's text.
 mod items;
 
-ghost use Rattle.std.specs.Prelude.{◌≡◌, true, false};
-ghost use Rattle.session_declaration_reader.specs.bases.Bases.{ends_name, bracketed, no_tags, is_base, word_run, void_before};
+ghost use Rattle.std.specs.Prelude.{◌≡◌};
+ghost use Rattle.session_declaration_reader.specs.bases.Bases.{ends_name, bracketed, void_before};
 ghost use Rattle.session_declaration_reader.specs.tokens.Looking.{tokens_from};
-ghost use Rattle.session_declaration_reader.specs.bases.Looking.{BaseWord, QualsAt};
-ghost use Rattle.session_declaration_reader.specs.bases.Looking.{AfterWords, BaseAt};
+ghost use Rattle.session_declaration_reader.specs.bases.Looking.{BaseWord, QualsAt, behind_void};
+ghost use Rattle.session_declaration_reader.specs.bases.Looking.{Untagged, BaseEnds, BaseAt};
 
 pub use crate::bases::items::{Chain, Entry};
 use crate::token_kind::{Qualifier, TokenKind};
@@ -26,15 +26,9 @@ pub struct Base {
     pub end: usize,
 }
 
-// The words of a base: where they end, and whether none of them is struct, union or enum.
-#[derive(Clone, Copy)]
-struct Words {
-    end: usize,
-    no_tags: bool,
-}
-
 impl Cursor<'_> {
-    // None where a qualifier stands twice.
+    // None where a qualifier stands twice. (By index: tried with `iter_mut`, and it is no Rust, since `contains` looks at the whole list in
+    // each turn, while the iterator holds its places.)
     pub fn quals_at(self) -> Option<Quals>
         ensures { QualsAt self.entry.text.now self.entry.at result }
     {
@@ -85,45 +79,36 @@ impl Cursor<'_> {
         Some(t)
     }
 
-    // The words of the base. (No `successors`: `for` and what else goes to an iterator's end ask that what remains is finite, and std says
-    // of that one that it is endless.)
-    fn words(self, named: bool) -> Words
-        ensures end { AfterWords self.entry.text.now self.entry.at named result.end }
-        ensures no_tags { result.no_tags ≡ no_tags (word_run named (tokens_from self.entry)) }
+    // Where the words of the base end, if none of them is struct, union or enum. (A `while`, to the first that is no word: `successors` is
+    // endless for std, and with `take` it would count besides, only to end.)
+    fn untagged_end(self, named: bool) -> Option<usize>
+        ensures { Untagged self.entry.text.now self.entry.at named result }
     {
-        let mut words = Words {
-            end: self.at,
-            no_tags: true,
-        };
-        while let Some(t) = (Cursor {
-            at: words.end,
-            ..self
-        })
-        .base_word(named)
-        {
+        let mut end = self.at;
+        while let Some(t) = (Cursor { at: end, ..self }).base_word(named) {
             if let TokenKind::Tag = t.kind {
-                words.no_tags = false;
+                return None;
             }
-            words.end = t.end;
+            end = t.end;
         }
-        words
+        Some(end)
     }
 
-    fn is_base(self, named: bool) -> bool
-        ensures { result ≡ is_base (word_run named (tokens_from self.entry)) }
+    // Where the base that stands next ends: its keyword and a tag, or words.
+    fn base_end(self, named: bool) -> Option<usize>
+        ensures { BaseEnds self.entry.text.now self.entry.at named result }
     {
-        let Some(t) = self.base_word(named) else {
-            return false;
-        };
+        let t = self.base_word(named)?;
         let second = Cursor { at: t.end, ..self };
         let TokenKind::Tag = t.kind else {
-            return second.words(named).no_tags;
+            return second.untagged_end(named);
         };
-        let Some(u) = second.base_word(named) else {
-            return false;
-        };
+        let u = second.base_word(named)?;
         let third = Cursor { at: u.end, ..self };
-        third.base_word(named).is_none()
+        match third.base_word(named) {
+            Some(_) => None,
+            None => Some(u.end),
+        }
     }
 
     // The base that stands next, with its qualifiers.
@@ -135,28 +120,34 @@ impl Cursor<'_> {
             at: quals.end,
             ..self
         };
-        if !behind.is_base(named) {
-            return None;
-        }
+        let end = behind.base_end(named)?;
         let t = behind.token();
         Some(Base {
             quals,
             start: t.start,
-            end: behind.words(named).end,
+            end,
         })
+    }
+
+    // What stands behind a `void` that is next.
+    pub fn behind_void(self) -> Option<TokenKind>
+        ensures { result ≡ behind_void (tokens_from self.entry) }
+    {
+        let t = self.token();
+        let TokenKind::Void = t.kind else {
+            return None;
+        };
+        let behind = Cursor { at: t.end, ..self };
+        let u = behind.token();
+        Some(u.kind)
     }
 
     // `void` by itself, before that mark.
     pub fn void_before(self, mark: u8) -> bool
         ensures { result ≡ void_before mark (tokens_from self.entry) }
     {
-        let t = self.token();
-        let TokenKind::Void = t.kind else {
-            return false;
-        };
-        let behind = Cursor { at: t.end, ..self };
-        let u = behind.token();
-        u.kind.is_mark(mark)
+        let behind = self.behind_void();
+        behind.is_some_and(|kind| kind.is_mark(mark))
     }
 
     // Whether a declarator in parentheses stands next: it begins with a star.

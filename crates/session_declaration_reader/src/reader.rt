@@ -8,7 +8,7 @@ use crate::tokens::Cursor;
 use base_bytes::limit;
 
 // Words of a chain: three for each of its entries.
-pub const CHAIN_WORDS: usize = 1536;
+pub const CHAIN_WORDS: usize = 3 * limit::MOST_CALLS as usize;
 
 // Calls of the grammar that may be open at once: no declaration of at most 512 entries needs more.
 const MOST_OPEN: u32 = 2056;

@@ -2,7 +2,7 @@
 ghost use Rattle.std.specs.Prelude.{◌≡◌, true, ◌<◌, length, get_or, drop};
 ghost use Rattle.session_declaration_reader.specs.tokens.Tokens.{is_letter, is_word_byte, in_run};
 ghost use Rattle.session_declaration_reader.specs.tokens.Tokens as defs;
-ghost use Rattle.session_declaration_reader.specs.tokens.Looking.{count_value, base_kind, word_kind, run_kind, Skipped, Ran};
+ghost use Rattle.session_declaration_reader.specs.tokens.Looking.{count_value, word_kind, run_kind, Skipped, Ran};
 ghost use Rattle.session_declaration_reader.specs.tokens.Looking.{Looked};
 
 use crate::token_kind::{NO_TOKEN, Qualifier, TokenKind};
@@ -66,25 +66,8 @@ fn count_value(run: &[u8]) -> Option<u32>
     str::from_utf8(run).ok()?.parse().ok()
 }
 
-// An identifier that is no qualifier. (With word_kind as one function it is proved too, but the attribute that opens three definitions
-// stands on one line, and passes 140 columns.)
-#[tactic(auto, unfolding(crate::specs::tokens::Tokens::kind_of))]
-fn base_kind(run: &[u8]) -> TokenKind
-    ensures { result ≡ base_kind run.now }
-{
-    let is_tag = is_word(run, Word::Struct)
-        || is_word(run, Word::Union)
-        || is_word(run, Word::Enum);
-    if is_tag {
-        return TokenKind::Tag;
-    }
-    if is_word(run, Word::Void) {
-        return TokenKind::Void;
-    }
-    TokenKind::Word
-}
-
-#[tactic(auto, unfolding(crate::specs::tokens::Tokens::word_token, spec_c_dumper::specs::rules::Decl::qualifier))]
+// What an identifier is: a qualifier, or a word of a base.
+#[tactic(auto, unfolding(crate::specs::tokens::Tokens::word_token, crate::specs::tokens::Tokens::kind_of, spec_c_dumper::specs::rules::Decl::qualifier))]
 fn word_kind(run: &[u8]) -> TokenKind
     ensures { result ≡ word_kind run.now }
 {
@@ -97,7 +80,16 @@ fn word_kind(run: &[u8]) -> TokenKind
     if is_word(run, Word::Restrict) {
         return TokenKind::Qualifier(Qualifier::Restrict);
     }
-    base_kind(run)
+    let is_tag = is_word(run, Word::Struct)
+        || is_word(run, Word::Union)
+        || is_word(run, Word::Enum);
+    if is_tag {
+        return TokenKind::Tag;
+    }
+    if is_word(run, Word::Void) {
+        return TokenKind::Void;
+    }
+    TokenKind::Word
 }
 
 #[tactic(auto, unfolding(crate::specs::tokens::Looking::count_value, crate::specs::tokens::Tokens::run_token))]

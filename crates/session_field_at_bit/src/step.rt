@@ -66,7 +66,7 @@ fn try_member(
     Ok(member_step(m, k, end, bit))
 }
 
-// The first member that covers the bit.
+// The first member that covers the bit. (A `for`: by find_map a refusal would be turned into an Option and back, by `transpose` twice.)
 fn find_member(b: &Table, work: &[u8], t: BtfType, bit: u32) -> Result<Option<Step>, Refusal>
     ensures { step_asked result ≡ tried (btf_of b.now.head b.now.section.now work.now) bit 0 (members_of b.now.head b.now.section.now t) }
 {
@@ -113,7 +113,8 @@ pub fn next_step(b: &Table, work: &[u8], shape: Shape, bit: u32) -> Result<Optio
     }
 }
 
-// Writes entry n of a path of this length, if the lent path has room for the whole: no get_mut of place n asks this.
+// Writes entry n of a path of this length, if the lent path has room for the whole. (The room is tested by hand, since get_mut is no
+// plainer: of place n it would say nothing of the whole path, and this test would stand beside it.)
 pub fn put_entry(path: &mut [u8], n: u32, k: u32, len: u32)
     ensures { path.new ≡ entry_put path.old n k len }
 {

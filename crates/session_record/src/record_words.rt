@@ -2,6 +2,7 @@
 // length, types, enumerators, text length, pointer size, modes, visits, and seven of zero. An answer is its number in the upper half
 // of 64 bits and its value in the lower.
 ghost use Rattle.std.specs.Prelude.{◌≡◌, ◌<◌};
+ghost use Rattle.spec_session.specs.session.Answers as answers;
 ghost use Rattle.spec_session.specs.session.Answers.{alone, answer_is};
 ghost use Rattle.session_record.specs.record_words.Words.{packed, get_long, put_long, put_reached, decoded, encoded_last, encoded};
 ghost use Rattle.session_record.specs.record_words.Words.{unused_zero};
@@ -20,12 +21,19 @@ const USED_WORDS: usize = 9;
 // The answer 255 with value 0, for a slice that is shorter than C promises: no refusal has this number.
 pub const ANSWER_SHORT_SLICE: u64 = 255 * limit::TWO_TO_32;
 
+// Any number and value; of an answer that is accepted the number is 0.
+pub fn pack(number: u32, value: u32) -> u64
+    ensures { result ≡ packed (answers.Refused number value) }
+{
+    (number as u64) * limit::TWO_TO_32 + (value as u64)
+}
+
 pub fn number_and_value(a: Result<u32, Refused>) -> u64
     ensures { result ≡ packed (answer_is a) }
 {
     match a {
         Ok(value) => value as u64,
-        Err(r) => (u32::from(r.refusal) as u64) * limit::TWO_TO_32 + (r.value as u64),
+        Err(r) => pack(u32::from(r.refusal), r.value),
     }
 }
 
@@ -101,7 +109,8 @@ fn encode_rest(record: &mut [u8], s: Session)
     clear_unused(record);
 }
 
-// (Its loop is proved with the definition folded.)
+// (No fill: a record may be shorter than its words, and of a word of 32 bits that lies partly inside put_long writes no byte. Its loop is
+// proved with the definition folded.)
 #[tactic(auto)]
 fn clear_unused(record: &mut [u8])
     ensures { «record».new ≡ unused_zero 7 «record».old }

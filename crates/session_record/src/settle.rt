@@ -34,40 +34,16 @@ pub fn refused(s: Session, refusal: Refusal, value: u32) -> Turn
 pub fn is_kept(refusal: Refusal) -> bool
     ensures { result ≡ ltb (refusal_number refusal) 12 }
 {
-    match refusal {
-        Refusal::PointerSize
-        | Refusal::SectionTooLong
-        | Refusal::BadHeader
-        | Refusal::BadStrings
-        | Refusal::BadRecord
-        | Refusal::BadReference
-        | Refusal::PrototypeHeld
-        | Refusal::Loop
-        | Refusal::WorkShort
-        | Refusal::NoSuchId
-        | Refusal::SessionClosed => true,
-        Refusal::TooDeep
-        | Refusal::Cycle
-        | Refusal::NamelessTypedef
-        | Refusal::AlignmentZero
-        | Refusal::Overflow
-        | Refusal::TextFull
-        | Refusal::Misplaced
-        | Refusal::NoDeclaration
-        | Refusal::NoField
-        | Refusal::CeilingPassed
-        | Refusal::OutputShort => false,
-    }
+    u32::from(refusal) < u32::from(Refusal::TooDeep)
 }
 
-// Whether the session stays open: after no refusal, and after 10. 11 is tested before.
+// Whether the session stays open: after no refusal, and after 10 (those of opening come to no request). 11 is tested before.
 pub fn stays_open(stop: Option<Refusal>) -> bool
     ensures { result ≡ stays_open stop }
 {
     match stop {
         None => true,
-        Some(Refusal::SessionClosed) => false,
-        Some(refusal) => is_kept(refusal),
+        Some(refusal) => u32::from(refusal) <= u32::from(Refusal::NoSuchId),
     }
 }
 

@@ -42,15 +42,25 @@ impl Options {
     }
 }
 
-// Bytes of an entry of the list: three words.
-pub const ENTRY_BYTES: usize = 12;
-
 // How many entries the list has, and the calls of ordering made under a ceiling, beside what is told of the requests.
 #[derive(Clone, Copy)]
 pub struct Counted<T> {
     pub of: T,
     pub count: usize,
     pub made: u64,
+}
+
+impl<T> Counted<T> {
+    // Before any entry and any call of ordering.
+    pub(crate) fn none(of: T) -> Counted<T>
+        ensures { result ≡ record { of = of; count = 0; made = 0 } }
+    {
+        Counted {
+            of,
+            count: 0,
+            made: 0,
+        }
+    }
 }
 
 // Where the requests of a call have come to, and the ids of a list; and what a call comes to.

@@ -9,12 +9,12 @@ ghost use Rattle.c_dumper_emit.specs.entries.Noted.{entries_of};
 ghost use Rattle.session_requests.specs.options.Requests.{stage_of, Fits, Ready, requested_with, idle_after};
 
 use crate::call::Requests;
-use crate::options::{Counted, ENTRY_BYTES, Options, Progress};
+use crate::options::{Counted, Options, Progress};
 use c_dumper_dependency_order::leaders::Lead;
 use c_dumper_dependency_order::order_type::Orderer;
 use c_dumper_dependency_order::ways::count;
 use c_dumper_emit::dump_type::{Request, dump_type, is_idle};
-use c_dumper_emit::entries::Pen;
+use c_dumper_emit::entries::{ENTRY_BYTES, Pen};
 use session_record::arrival::{arrived, limit};
 use session_record::settle::visits_in;
 use spec_session::session::Reached;

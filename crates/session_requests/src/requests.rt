@@ -13,13 +13,14 @@ ghost use Rattle.session_requests.specs.options.Lists.{cleared_if, list_after, e
 ghost use Rattle.session_requests.specs.options.Lists.{list_call_with, tally_of, unknown_after, call_with};
 
 use crate::call::{Call, Requests};
-use crate::options::{Counted, ENTRY_BYTES, Ended, Options, Progress, Tallied, Wanted};
+use crate::options::{Counted, Ended, Options, Progress, Tallied, Wanted};
 use base_bytes::limit;
 use base_bytes::refusal::Refusal;
 use base_bytes::word::get_word;
 use btf_open_causes::header::btf_of;
 use btf_type_table::table::Table;
 use c_dumper_dependency_order::leaders::Lead;
+use c_dumper_emit::entries::ENTRY_BYTES;
 use session_record::arrival::{clear_after, count_of, settle_list};
 use session_record::settle::{clear_from, is_current, refused, settle, stays_open, visits_in};
 use spec_session::session::{Reached, Session, Tally, Turn};
@@ -28,15 +29,11 @@ use spec_session::session::{Reached, Session, Tally, Turn};
 fn none_yet(len: u32, visits: u32) -> Progress
     ensures { result ≡ record { of = record { len = len; stop = None; visits = visits }; count = 0; made = 0 } }
 {
-    Counted {
-        of: Reached {
-            len,
-            stop: None,
-            visits,
-        },
-        count: 0,
-        made: 0,
-    }
+    Counted::none(Reached {
+        len,
+        stop: None,
+        visits,
+    })
 }
 
 // After so many accepted ids.
@@ -104,7 +101,8 @@ impl Requests<'_> {
         r
     }
 
-    // The ids of a list in their order, to the first that is refused; what follows the text and the entries is not zeroed yet.
+    // The ids of a list in their order, to the first that is refused; what follows the text and the entries is not zeroed yet. (By index:
+    // the count is of 32 bits, and k is the turn and what the answer tells; chunks with a take, enumerate and a cast are no plainer.)
     fn dump_ids(
         &self,
         s: Session,
@@ -155,11 +153,7 @@ fn clear_list(list: &mut [u8], r: Tallied)
 fn unchanged(s: Session, c: Refusal, value: u32) -> Ended
     ensures { result ≡ record { of = refused_turn s c value; count = 0; made = 0 } }
 {
-    Counted {
-        of: refused(s, c, value),
-        count: 0,
-        made: 0,
-    }
+    Counted::none(refused(s, c, value))
 }
 
 // The end of a call: what follows the text and the entries is zeroed.
@@ -253,14 +247,10 @@ impl<'a> Call<'a> {
     {
         let s = self.session;
         if ids.len() < 4 {
-            return Counted {
-                of: Turn {
-                    session: s,
-                    answer: Ok(0),
-                },
-                count: 0,
-                made: 0,
-            };
+            return Counted::none(Turn {
+                session: s,
+                answer: Ok(0),
+            });
         }
         if !is_current(s, self.section.len(), work.len(), text.len()) {
             return unchanged(s, Refusal::SessionClosed, 0);

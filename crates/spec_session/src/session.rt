@@ -3,7 +3,8 @@ use spec_bytes::refusal::Refusal;
 
 // The lengths are those at opening; text_len is the length of the text so far. Bit 0 of modes is union_as_struct,
 // bit 1 strong_arrays, bit 2 the placing mode, bit 3 names that cannot collide. visits: the types and members looked
-// at to find alignments, by the requests accepted so far. By default it is a session that was never opened.
+// at to find alignments, by the requests accepted so far. By default it is a session that was never opened. (`open` is a flag
+// beside the rest, and no Option: the record for C has it as a word, and a call on a closed session answers its text_len.)
 #[derive(Clone, Copy, Default)]
 pub struct Session {
     pub open: bool,

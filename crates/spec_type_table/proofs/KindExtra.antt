@@ -6,7 +6,7 @@ use Rattle.std.specs.Prelude.{Option, Some, None}
 use Rattle.spec_type_table.specs.declared.kind.Kind.{Kind}
 use Rattle.spec_type_table.specs.declared.kind.Kind.TheVariants.{Void, Int, Ptr, Array, Struct, Union, Enum, Fwd, Typedef, Volatile, Const, Restrict, Func, FuncProto, Var, Datasec, Float, DeclTag, TypeTag, Enum64, Unknown}
 use Rattle.spec_type_table.specs.Kinds.{kind_named}
-use Rattle.spec_type_table.specs.Records.{kind_of, vlen_of, extra_of}
+use Rattle.spec_type_table.specs.Records.{extra_of}
 use Rattle.spec_type_table.proofs.KindLaws.{by_kind}
 use Rattle.spec_type_table.proofs.KindNames.{unknown}
 
@@ -47,11 +47,6 @@ extra_is k v =
     (λ m l. ap (extra_as (v % 65536)) (sym (unknown m l)) ∙ extra_past m v l)
     k
 
--- x is the kind that Kind::of returned, n the count of entries; in the arm of y
-pub extra_by : (info n : ℕ) → n ≡ vlen_of info → (x : Kind) → x ≡ kind_named (kind_of info) → (y : Kind) → x ≡ y
-    → extra_as n y ≡ extra_of (kind_of info) (vlen_of info)
-extra_by info n e x f y p =
-    let m : n ≡ vlen_of info % 65536 = omega arith in
-    ap (extra_as n) (sym p ∙ f)
-    ∙ ap (λ (q : ℕ). extra_as q (kind_named (kind_of info))) m
-    ∙ extra_is (kind_of info) (vlen_of info)
+-- x is the kind of the number k; in the arm of y
+pub extra_by : (v : ℕ) (x y : Kind) → x ≡ y → (k : ℕ) → x ≡ kind_named k → extra_as (v % 65536) y ≡ extra_of k v
+extra_by v x y p k f = ap (extra_as (v % 65536)) (sym p ∙ f) ∙ extra_is k v

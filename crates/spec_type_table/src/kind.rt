@@ -29,13 +29,17 @@ pub enum Kind {
     Unknown,
 }
 
+// btf_type.info: bits 24-28 are the kind.
+pub const KIND_UNIT: u32 = 1 << 24;
+
+pub const KINDS: u32 = 1 << 5;
+
 impl Kind {
-    // btf_type.info: bits 24-28 are the kind.
     #[inline]
     pub fn of(info: u32) -> Kind
         ensures { result ≡ kind_named (kind_of info) }
     {
-        Kind::from(info / 16777216 % 32)
+        Kind::from(info / KIND_UNIT % KINDS)
     }
 }
 

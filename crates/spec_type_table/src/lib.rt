@@ -6,6 +6,6 @@ mod kind;
 mod node;
 mod types;
 
-pub use kind::Kind;
+pub use kind::{KIND_UNIT, KINDS, Kind};
 pub use node::Node;
 pub use types::{BtfMember, BtfType, Entries, TypeTable};

@@ -79,13 +79,13 @@ word_none n e =
     (λ l. absurd (let q : 0 ≡ n = ap (λ (o : Option ℕ). unwrap_or o 0) (e ∙ sym (one_word n (λ z. omega arith))) in omega arith))
     (cases_lt n 1)
 
-word_is : (n v : ℕ) → Some v ≡ some_word n → (n ≡ v) × (n ≡ 0 → ⊥)
+word_is : (n v : ℕ) → Some v ≡ some_word n → n ≡ v
 word_is n v e =
     ⊎_elim
     (λ l. let z : n ≡ 0 = omega arith in
     let q = e ∙ sym (no_word n z) in
     absurd (let a : v ≡ 0 = ap (λ (o : Option ℕ). unwrap_or o 0) q in let b : v ≡ 1 = ap (λ (o : Option ℕ). unwrap_or o 1) q in omega arith))
-    (λ l. (sym (ap (λ (o : Option ℕ). unwrap_or o 0) (e ∙ sym (one_word n (λ z. omega arith)))), λ z. omega arith))
+    (λ l. sym (ap (λ (o : Option ℕ). unwrap_or o 0) (e ∙ sym (one_word n (λ z. omega arith)))))
     (cases_lt n 1)
 
 -- ---- the library's least and largest
@@ -124,12 +124,8 @@ module _ (types id v n : ℕ) (w : List ℕ) where
   pub remember_unsaid : None ≡ some_word v → w ≡ remembered types id v n w
   remember_unsaid e = remember_none types id v n w (word_none v e)
 
-  module _ (x : ℕ) (e : Some x ≡ some_word v) where
-    pub remember_beyond : types ≤ id → w ≡ remembered types id v n w
-    remember_beyond l = remember_past types id v n w (word_is v x e).1 l
-
-    pub remember_said : id < types → (w₁ w₂ : List ℕ) → w₁ ≡ with_visits n w → w₂ ≡ put_field w₁ id 15 x → w₂ ≡ remembered types id v n w
-    remember_said l w₁ w₂ e₁ e₂ = remember_here types id v n w (word_is v x e).1 l w₁ w₂ e₁ (e₂ ∙ ap (put_field w₁ id 15) (sym (word_is v x e).0))
+  pub remember_said : (x : ℕ) (u : List ℕ) → Some x ≡ some_word v → u ≡ remembered types id x n w → u ≡ remembered types id v n w
+  remember_said x u e f = f ∙ ap (λ (y : ℕ). remembered types id y n w) (sym (word_is v x e))
 
 module _ (s : Code) (left : ℕ) where
   pub taken_over : left < s.height → Err TooDeep ≡ taken_by s left

@@ -230,7 +230,7 @@ module _ (w : ℕ → ℕ) (sl end p : ℕ) where
             let q : p + 12 + n ≡ p + (12 + extra (kind (w (p + 4) / 16777216 % 32)) (w (p + 4) % 65536)) = omega arith in
             rw (s, named_is ∙ f, next_p) (ap (λ (y : ℕ). Some y) q)
 
--- ---- scan_area
+-- ---- Area::scan
 -- what holds before each record: the pass so far, and what is left of it
 pub record Passing (w : ℕ → ℕ) (sl from end : ℕ) (start₀ : List ℕ) (at x e : ℕ) (start : List ℕ) : Type 0 where
   pub some : 1 ≤ x
@@ -475,9 +475,9 @@ shapes_agree : (v k : ℕ) → k < 32 → extra_of k v ≡ to_extra (shape (kind
 unfolding extra_of kind
 shapes_agree v k h = all_at (λ j. extra_of j v ≡ to_extra (shape (kind j)) v) 0 32 k (refl, (refl, (refl, (refl, (refl, (refl, (refl, (refl, (refl, (refl, (refl, (refl, (refl, (refl, (refl, (refl, (refl, (refl, (refl, (refl, (refl, (refl, (refl, (refl, (refl, (refl, (refl, (refl, (refl, (refl, (refl, (refl, tt)))))))))))))))))))))))))))))))) zero-le h
 
-module _ (info : ℕ) (r : Option ℕ) (er : r ≡ extra_of (kind_of info) (vlen_of info)) where
+module _ (info v : ℕ) (ev : v ≡ vlen_of info) (r : Option ℕ) (er : r ≡ extra_of (kind_of info) v) where
   agree : r ≡ to_extra (shape (kind (kind_of info))) (vlen_of info)
-  agree = er ∙ shapes_agree (vlen_of info) (kind_of info) (omega arith)
+  agree = er ∙ ap (extra_of (kind_of info)) ev ∙ shapes_agree (vlen_of info) (kind_of info) (omega arith)
 
   pub extra_known : (n : ℕ) → r ≡ Some n → known (shape (kind (kind_of info))) ≡ true
   extra_known n e = go (shape (kind (kind_of info))) (sym agree ∙ e)

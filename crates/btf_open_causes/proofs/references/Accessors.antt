@@ -130,6 +130,14 @@ pub id_is : (b : TypeTable) (s : List ℕ) (kind at k q r : ℕ) → q ≡ id_pl
 unfolding id_at
 id_is b s kind at k q r f g = rw (← f) g
 
+-- by the place p that the entry i tells
+module _ (b : TypeTable) (s : List ℕ) (i p : ℕ) (e : p ≡ i / 32) (r : ℕ) where
+  pub count_told : r ≡ count_at b s (i % 32) p → r ≡ count_at b s (i % 32) (i / 32)
+  count_told f = f ∙ ap (count_at b s (i % 32)) e
+
+  pub id_told : (k : ℕ) → r ≡ id_at b s (i % 32) p k → r ≡ id_at b s (i % 32) (i / 32) k
+  id_told k f = f ∙ ap (λ (q : ℕ). id_at b s (i % 32) q k) e
+
 -- a type by its entry
 module _ (b : TypeTable) (start : List ℕ) (x i : ℕ) (e : i ≡ entry_at b start x) where
   pub kind_is : i % 32 ≡ kind_at b start x

@@ -38,10 +38,10 @@ module _ (b : TypeTable) (start : List ℕ) where
       bad_none m (inr h) = inside false (apart refused k ((λ g. m (inl g)), (omega arith, (omega arith, ((λ g. m (inr g)), tt)))))
 
 module _ (b : TypeTable) (s start : List ℕ) where
-  pub some_bad_is : (x e n : ℕ) → e ≡ entry_at b start x → n ≡ count_at b s (e % 32) (e / 32)
-      → any_below n (λ k. is_bad b start (id_at b s (e % 32) (e / 32) k)) ≡ is_some_bad b s start x
+  pub some_bad_is : (x e : ℕ) → e ≡ entry_at b start x → (p : ℕ) → p ≡ e / 32 → (n : ℕ) → n ≡ count_at b s (e % 32) p
+      → any_below n (λ k. is_bad b start (id_at b s (e % 32) p k)) ≡ is_some_bad b s start x
   unfolding is_some_bad followed_count followed_id kind_at place_of
-  some_bad_is x e n p q = rw (q, p)
+  some_bad_is x e f p g n q = rw (q, g, f)
 
   bad_cases : (y : ℕ) → (is_bad b start y ≡ true) ↔ ((type_count b ≤ y) ⊎ (is_kind_among refused (kind_at b start y) ≡ true))
   unfolding is_bad

@@ -1,5 +1,5 @@
 // Types by id, through the index, and the ids that they follow.
-ghost use Rattle.std.specs.Prelude.{◌≡◌, ◌+◌, ◌*◌, ◌/◌, ◌%◌};
+ghost use Rattle.std.specs.Prelude.{◌≡◌, ℕ, ◌+◌, ◌*◌, ◌/◌, ◌%◌};
 ghost use Rattle.spec_type_table.specs.Kinds.{kind_named};
 ghost use Rattle.spec_type_table.specs.Records.{section_word, vlen_of};
 ghost use Rattle.btf_open_causes.specs.references.Followed.{type_count, entry_at, kind_at, count_at, id_place, id_at, followed_id};
@@ -8,7 +8,7 @@ use base_bytes::element::peek;
 use base_bytes::limit;
 use btf_type_table::kind::{member_place, param_place, vlen_of};
 use btf_type_table::table::Table;
-use spec_type_table::Kind;
+use spec_type_table::{KINDS, Kind};
 
 // An entry of the index of records, which has one word for each type (fixed memory): the place of its record and its kind.
 #[derive(Clone, Copy)]
@@ -17,9 +17,7 @@ pub struct Entry {
 }
 
 // The kind is the last five bits of the word, and the place the other 27.
-const KINDS: u32 = 32;
-
-const PLACES: u32 = 134217728;
+const PLACES: u32 = 1 << 27;
 
 impl Entry {
     // The entry of a record of a kind at a place. (The kind's bits and no Kind: an entry is written before its record is tested.)
@@ -42,23 +40,22 @@ impl Entry {
     {
         Kind::from(self.word % KINDS)
     }
+}
 
-    // Where the k-th id that the record follows stands; a prototype's result comes first.
-    fn id_place(self, k: u32) -> usize
-        ensures { result ≡ id_place (self.word % 32) (self.word / 32) k }
-    {
-        let at = self.place();
-        match self.kind() {
-            Kind::Array => (at as usize) + 12,
-            Kind::Struct | Kind::Union => member_place(at, k) + 4,
-            Kind::FuncProto => {
-                if k == 0 {
-                    return (at as usize) + 8;
-                }
-                param_place(at, k - 1) + 4
+// Where the k-th id stands that the record of a kind at a place follows; a prototype's result comes first.
+fn id_place(kind: Kind, at: u32, k: u32) -> usize
+    ensures { (n : ℕ) → kind ≡ kind_named n → result ≡ id_place n at k }
+{
+    match kind {
+        Kind::Array => (at as usize) + 12,
+        Kind::Struct | Kind::Union => member_place(at, k) + 4,
+        Kind::FuncProto => {
+            if k == 0 {
+                return (at as usize) + 8;
             }
-            _ => (at as usize) + 8,
+            param_place(at, k - 1) + 4
         }
+        _ => (at as usize) + 8,
     }
 }
 
@@ -95,17 +92,17 @@ impl Index<'_> {
         self.entry(x).kind()
     }
 
-    fn vlen_at(&self, e: Entry) -> u32
-        ensures { result ≡ vlen_of (section_word self.now.table.head self.now.table.section.now (e.word / 32 + 4)) }
+    fn vlen_at(&self, at: u32) -> u32
+        ensures { result ≡ vlen_of (section_word self.now.table.head self.now.table.section.now (at + 4)) }
     {
-        vlen_of(self.table.word((e.place() as usize) + 4))
+        vlen_of(self.table.word((at as usize) + 4))
     }
 
-    // How many ids the record with an entry follows: targets, elements, members, parameters and results.
-    pub fn count_at(&self, e: Entry) -> u32
-        ensures { result ≡ count_at self.now.table.head self.now.table.section.now (e.word % 32) (e.word / 32) }
+    // How many ids the record of a kind at a place follows: targets, elements, members, parameters and results.
+    pub fn count_at(&self, kind: Kind, at: u32) -> u32
+        ensures { (n : ℕ) → kind ≡ kind_named n → result ≡ count_at self.now.table.head self.now.table.section.now n at }
     {
-        match e.kind() {
+        match kind {
             Kind::Ptr
             | Kind::Array
             | Kind::Typedef
@@ -113,22 +110,23 @@ impl Index<'_> {
             | Kind::Const
             | Kind::Restrict
             | Kind::TypeTag => 1,
-            Kind::Struct | Kind::Union => self.vlen_at(e),
-            Kind::FuncProto => self.vlen_at(e) + 1,
+            Kind::Struct | Kind::Union => self.vlen_at(at),
+            Kind::FuncProto => self.vlen_at(at) + 1,
             _ => 0,
         }
     }
 
     // The k-th of them.
-    pub fn id_at(&self, e: Entry, k: u32) -> u32
-        ensures { result ≡ id_at self.now.table.head self.now.table.section.now (e.word % 32) (e.word / 32) k }
+    pub fn id_at(&self, kind: Kind, at: u32, k: u32) -> u32
+        ensures { (n : ℕ) → kind ≡ kind_named n → result ≡ id_at self.now.table.head self.now.table.section.now n at k }
     {
-        self.table.word(e.id_place(k))
+        self.table.word(id_place(kind, at, k))
     }
 
     pub fn followed(&self, x: u32, k: u32) -> u32
         ensures { result ≡ followed_id self.now.table.head self.now.table.section.now self.now.start.now x k }
     {
-        self.id_at(self.entry(x), k)
+        let e = self.entry(x);
+        self.id_at(e.kind(), e.place(), k)
     }
 }

@@ -22,8 +22,8 @@ fn is_some_bad(i: &Index, x: u32) -> bool
     ensures { result ≡ is_some_bad i.now.table.head i.now.table.section.now i.now.start.now x }
 {
     let e = i.entry(x);
-    let n = i.count_at(e);
-    (0..n).any(|k| is_bad(i, i.id_at(e, k)))
+    let (kind, at) = (e.kind(), e.place());
+    (0..i.count_at(kind, at)).any(|k| is_bad(i, i.id_at(kind, at, k)))
 }
 
 pub fn has_bad_reference(i: &Index) -> bool

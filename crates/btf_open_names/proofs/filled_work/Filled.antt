@@ -7,8 +7,9 @@ use mathlib.Core.Logic.{◌⊎◌, inl, inr}
 use native.Mathlib.Omega.{arith}
 use native.Mathlib.Numerals.{add-one}
 use lib.ListN.{get_or}
+use lib.Dec.{eqb}
 use borrow.Author.Tests.{lt-ltb, le-ltb, ne_eqb}
-use Rattle.spec_bytes.specs.words.Words.{put_word}
+use Rattle.spec_bytes.specs.words.Words.{pick, put_word}
 use Rattle.spec_type_table.specs.declared.types.TypeTable.{TypeTable}
 use Rattle.spec_type_table.specs.declared.kind.Kind.{Kind}
 use Rattle.spec_type_table.specs.declared.kind.Kind.TheVariants.{Enum, Enum64, DeclTag}
@@ -41,13 +42,9 @@ module _ (start w₀ : List ℕ) where
 
 -- ---- fill_values
 module _ (kind at k : ℕ) where
-  pub value_64 : kind ≡ 19 → (m : ℕ) → m ≡ member_at at k → m ≡ value_place kind at k
+  pub value_by : (t : Bool) → t ≡ eqb kind 19 → (p : ℕ) → p ≡ at → (m : ℕ) → m ≡ pick t (member_at p k) (param_at p k) → m ≡ value_place kind at k
   unfolding value_place
-  value_64 e m f = rw (value_place, e) f
-
-  pub value_32 : (kind ≡ 19 → ⊥) → (m : ℕ) → m ≡ param_at at k → m ≡ value_place kind at k
-  unfolding value_place
-  value_32 n m f = rw (value_place, ne_eqb kind 19 n) f
+  value_by t e p f m g = g ∙ (λ i. pick (e i) (member_at (f i) k) (param_at (f i) k))
 
 module _ (types kind at first : ℕ) (w₀ : List ℕ) where
   pub values_none : w₀ ≡ values_put types kind at first w₀ 0
@@ -64,19 +61,13 @@ module _ (types kind at first : ℕ) (w₀ : List ℕ) where
 
 -- ---- kinds
 module _ (k : ℕ) (x : Kind) (e : x ≡ kind_named k) where
-  pub enum_64 : x ≡ Enum64 → k ≡ 19
-  enum_64 q = enum64_number k (sym e ∙ q)
-
-  pub enum_32 : (x ≡ Enum64 → ⊥) → k ≡ 19 → ⊥
-  enum_32 n q = n (e ∙ ap kind_named q ∙ enum64_named)
-
   pub enum_is : (x ≡ Enum) ⊎ (x ≡ Enum64) → (k ≡ 6) ⊎ (k ≡ 19)
   enum_is (inl q) = inl (enum_number k (sym e ∙ q))
-  enum_is (inr q) = inr (enum_64 q)
+  enum_is (inr q) = inr (enum64_number k (sym e ∙ q))
 
   pub enum_not : (x ≡ Enum → ⊥) → (x ≡ Enum64 → ⊥) → (k ≡ 6) ⊎ (k ≡ 19) → ⊥
   enum_not n m (inl q) = n (e ∙ ap kind_named q ∙ enum_named)
-  enum_not n m (inr q) = enum_32 m q
+  enum_not n m (inr q) = m (e ∙ ap kind_named q ∙ enum64_named)
 
   pub tag_kind : k ≡ 17 → x ≡ DeclTag
   tag_kind q = e ∙ ap kind_named q ∙ decl_tag_named

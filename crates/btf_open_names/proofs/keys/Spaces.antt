@@ -1,8 +1,8 @@
 -- What the key of a holder stands for. Assumes nothing.
 use Prim.Native.Nat.{ℕ}
-use mathlib.Core.Path.{◌≡◌, refl, ap, ◌∙◌, sym}
+use mathlib.Core.Path.{◌≡◌, refl, ap, ap₂, ◌∙◌, sym}
 use mathlib.Core.List.{List}
-use mathlib.Core.Bool.{Bool, false}
+use mathlib.Core.Bool.{Bool, true, false}
 use native.Mathlib.Omega.{arith}
 use Rattle.std.proofs.Common.{Option, None, Some}
 use Rattle.spec_type_table.specs.declared.types.TypeTable.{TypeTable}
@@ -15,6 +15,7 @@ use Rattle.btf_open_names.specs.name_classes.Same.{same_list}
 use Rattle.btf_open_names.specs.name_classes.Classes.{key_of, key_in, space_of, space_at, name_of, record_p}
 use Rattle.btf_open_names.specs.name_classes.Table.{hash_from, hash_key}
 use Rattle.btf_open_names.proofs.name_classes.Keys as keys
+use Rattle.btf_open_names.proofs.name_classes.Names.{same_self}
 use mathlib.Core.Logic.{◌⊎◌, inl, inr}
 use Rattle.spec_type_table.specs.declared.kind.Kind.{Kind}
 use Rattle.spec_type_table.specs.declared.kind.Kind.TheVariants.{Struct, Union, Enum, Fwd, Typedef, Enum64}
@@ -36,18 +37,27 @@ pub numbers_other : (x y : Space) → (x ≡ y → ⊥) → space_number x ≡ s
 numbers_other x y n e = n (number_one x y e)
 
 -- ---- whether two keys are the same
-module _ (s : List ℕ) (o : Option Key) (y : Key) where
-  pub same_none : o ≡ None → false ≡ same_list (loaded s o) (key_list s y)
-  same_none e = keys.keys_other s 2 (space_number y.space) 0 y.name (λ z. spaced y.space (sym z)) ∙ ap (λ (k : Option Key). same_list (loaded s k) (key_list s y)) (sym e)
+module _ (s : List ℕ) (o p : Option Key) where
+  alike : (k l : Option Key) → o ≡ k → p ≡ l → same_list (loaded s k) (loaded s l) ≡ same_list (loaded s o) (loaded s p)
+  alike k l e f = ap₂ (λ (x y : Option Key). same_list (loaded s x) (loaded s y)) (sym e) (sym f)
 
-  module _ (x : Key) (e : o ≡ Some x) where
-    pub same_other : (x.space ≡ y.space → ⊥) → false ≡ same_list (loaded s o) (key_list s y)
-    same_other n = keys.keys_other s (space_number x.space) (space_number y.space) x.name y.name (numbers_other x.space y.space n) ∙ ap (λ (k : Option Key). same_list (loaded s k) (key_list s y)) (sym e)
+  pub same_none : o ≡ None → p ≡ None → true ≡ same_list (loaded s o) (loaded s p)
+  same_none e f = sym (same_self (key_of s 2 0)) ∙ alike None None e f
 
-    pub same_some : x.space ≡ y.space → (r : Bool) → r ≡ same_list (name_at s x.name) (name_at s y.name) → r ≡ same_list (loaded s o) (key_list s y)
+  pub same_one : (y : Key) → o ≡ None → p ≡ Some y → false ≡ same_list (loaded s o) (loaded s p)
+  same_one y e f = keys.keys_other s 2 (space_number y.space) 0 y.name (λ z. spaced y.space (sym z)) ∙ alike None (Some y) e f
+
+  pub same_other_one : (x : Key) → o ≡ Some x → p ≡ None → false ≡ same_list (loaded s o) (loaded s p)
+  same_other_one x e f = keys.keys_other s (space_number x.space) 2 x.name 0 (spaced x.space) ∙ alike (Some x) None e f
+
+  module _ (x y : Key) (e : o ≡ Some x) (f : p ≡ Some y) where
+    pub same_other : (x.space ≡ y.space → ⊥) → false ≡ same_list (loaded s o) (loaded s p)
+    same_other n = keys.keys_other s (space_number x.space) (space_number y.space) x.name y.name (numbers_other x.space y.space n) ∙ alike (Some x) (Some y) e f
+
+    pub same_some : x.space ≡ y.space → (r : Bool) → r ≡ same_list (name_at s x.name) (name_at s y.name) → r ≡ same_list (loaded s o) (loaded s p)
     same_some q r t =
         keys.keys_same s (space_number x.space) (space_number y.space) x.name y.name r (ap space_number q) (spaced x.space) t
-        ∙ ap (λ (k : Option Key). same_list (loaded s k) (key_list s y)) (sym e)
+        ∙ alike (Some x) (Some y) e f
 
 -- ---- the space of a kind
 module _ (k : ℕ) (x : Kind) (e : x ≡ kind_named k) where

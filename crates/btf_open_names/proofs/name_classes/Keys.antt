@@ -59,9 +59,6 @@ module _ (t : ℕ) where
         bucket_link = place_apart t 7 3 8 4 (omega arith);
       }
 
-  pub link_bucket : (i j : ℕ) → link_p t i ≢ bucket_p t j
-  link_bucket = place_apart t 8 4 7 3 (omega arith)
-
   -- the places of records are none of those that are filled
   record_class : (i j : ℕ) → record_p t i ≢ class_p t j
   record_class = place_apart t 0 0 5 1 (omega arith)

@@ -1,6 +1,6 @@
 -- Suffixes of keys, and the base of a holder. Assumes nothing.
 use Prim.Native.Nat.{ℕ, zero, suc, ◌<◌, ◌≤◌}
-use mathlib.Core.Path.{◌≡◌, refl, ap, ◌∙◌, sym}
+use mathlib.Core.Path.{◌≡◌, refl, ap, ap₂, ◌∙◌, sym}
 use mathlib.Core.List.{List, [], ◌∷◌}
 use mathlib.Core.Bool.{Bool, true, false}
 use mathlib.Core.Logic.{⊎_elim}
@@ -14,32 +14,44 @@ use Rattle.btf_open_names.specs.declared.keys.keys.Key.{Key}
 use Rattle.btf_open_names.specs.keys.Keys.{space_number, key_list, loaded}
 use Rattle.btf_open_names.specs.name_classes.Classes.{key_of}
 use Rattle.btf_open_names.specs.filled_work.Takers.{suffix_on, after_underscores, base_from}
-use Rattle.btf_open_names.specs.suffixes.Found.{from_two}
 use Rattle.btf_open_names.specs.suffixes.Based.{base_with, based}
 use Rattle.btf_open_names.specs.declared.suffixes.bases.Base.{Base}
 use Rattle.btf_open_causes.proofs.references.First.{or_else, first_from}
 use Rattle.btf_open_names.proofs.keys.Spaces.{spaced, numbers_other}
-use Rattle.btf_open_names.proofs.filled_work.Holders.{keys_apart, keys_some}
-use Rattle.btf_open_names.proofs.suffixes.Found.{two_zero}
+use Rattle.btf_open_names.proofs.filled_work.Holders.{keys_apart, keys_none, keys_some}
 use Rattle.btf_open_names.proofs.filled_work.Bytes.{on_none}
 
 -- ---- key_suffix
-module _ (s : List ℕ) (o : Option Key) (y : Key) where
-  whole : (k : Option Key) → o ≡ k → from_two (suffix_on (loaded s k) (key_list s y)) ≡ from_two (suffix_on (loaded s o) (key_list s y))
-  whole k e = ap (λ (q : Option Key). from_two (suffix_on (loaded s q) (key_list s y))) (sym e)
+on_nameless : (x : List ℕ) → 0 ≡ suffix_on x (2 ∷ [])
+unfolding suffix_on after_underscores
+on_nameless [] = refl
+on_nameless (a ∷ x) = sym (go (eqb a 2))
+  where
+    go : (t : Bool) → elim t as (λ z. ℕ) [ true ↦ suffix_on x [] | false ↦ 0 ] ≡ 0
+    go true = on_none x
+    go false = refl
 
-  pub suffix_none : o ≡ None → None ≡ from_two (suffix_on (loaded s o) (key_list s y))
-  suffix_none e = two_zero _ (keys_apart s 2 0 (space_number y.space) y.name (λ q. spaced y.space (sym q))) ∙ whole None e
+module _ (s : List ℕ) (o p : Option Key) where
+  pub suffix_none : o ≡ None → 0 ≡ suffix_on (loaded s o) (loaded s p)
+  suffix_none e = go p ∙ ap (λ (x : Option Key). suffix_on (loaded s x) (loaded s p)) (sym e)
+    where
+      go : (y : Option Key) → 0 ≡ suffix_on (key_of s 2 0) (loaded s y)
+      go None = keys_none s 2 0 2 0 refl refl
+      go (Some y) = keys_apart s 2 0 (space_number y.space) y.name (λ q. spaced y.space (sym q))
 
-  module _ (x : Key) (e : o ≡ Some x) where
-    pub suffix_apart : (x.space ≡ y.space → ⊥) → None ≡ from_two (suffix_on (loaded s o) (key_list s y))
-    suffix_apart n = two_zero _ (keys_apart s (space_number x.space) x.name (space_number y.space) y.name (numbers_other x.space y.space n)) ∙ whole (Some x) e
+  pub suffix_of_none : p ≡ None → 0 ≡ suffix_on (loaded s o) (loaded s p)
+  unfolding key_of
+  suffix_of_none f = on_nameless (loaded s o) ∙ ap (λ (y : Option Key). suffix_on (loaded s o) (loaded s y)) (sym f)
 
-    pub suffix_some : x.space ≡ y.space → (r : Option ℕ) → r ≡ from_two (suffix_on (name_at s x.name) (name_at s y.name)) → r ≡ from_two (suffix_on (loaded s o) (key_list s y))
-    suffix_some q r t =
-        t
-        ∙ ap from_two (keys_some s (space_number x.space) x.name (space_number y.space) y.name _ (ap space_number q) (spaced x.space) refl)
-        ∙ whole (Some x) e
+  module _ (x y : Key) (e : o ≡ Some x) (f : p ≡ Some y) where
+    keys : suffix_on (key_list s x) (key_list s y) ≡ suffix_on (loaded s o) (loaded s p)
+    keys = ap₂ (λ (k l : Option Key). suffix_on (loaded s k) (loaded s l)) (sym e) (sym f)
+
+    pub suffix_apart : (x.space ≡ y.space → ⊥) → 0 ≡ suffix_on (loaded s o) (loaded s p)
+    suffix_apart n = keys_apart s (space_number x.space) x.name (space_number y.space) y.name (numbers_other x.space y.space n) ∙ keys
+
+    pub suffix_some : x.space ≡ y.space → (r : ℕ) → r ≡ suffix_on (name_at s x.name) (name_at s y.name) → r ≡ suffix_on (loaded s o) (loaded s p)
+    suffix_some q r t = keys_some s (space_number x.space) x.name (space_number y.space) y.name r (ap space_number q) (spaced x.space) t ∙ keys
 
 -- ---- a holder as a base
 module _ (c m : ℕ) where
@@ -93,15 +105,6 @@ module _ (key : ℕ → List ℕ) (h : ℕ) where
       nothing_from z f (suc c)
       ∙ sym (ap (λ (t : Bool). elim t as (λ z. ℕ) [ true ↦ c | false ↦ base_from key h f (suc c) ]) (lt-leb 2 (suffix_on (key c) (key h)) (omega (arith, z c))))
 
-on_nameless : (x : List ℕ) → suffix_on x (2 ∷ []) ≡ 0
-unfolding suffix_on after_underscores
-on_nameless [] = refl
-on_nameless (a ∷ x) = go (eqb a 2)
-  where
-    go : (t : Bool) → elim t as (λ z. ℕ) [ true ↦ suffix_on x [] | false ↦ 0 ] ≡ 0
-    go true = on_none x
-    go false = refl
-
 pub spaceless : (key : ℕ → List ℕ) (h n : ℕ) (s : List ℕ) → key_of s 2 0 ≡ key h → None ≡ based key h (base_from key h n 1)
 unfolding key_of
-spaceless key h n s e = based_none key h _ (nothing_from key h (λ c. ap (suffix_on (key c)) (sym e) ∙ on_nameless (key c)) n 1)
+spaceless key h n s e = based_none key h _ (nothing_from key h (λ c. ap (suffix_on (key c)) (sym e) ∙ sym (on_nameless (key c))) n 1)

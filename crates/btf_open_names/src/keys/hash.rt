@@ -17,7 +17,7 @@ pub fn same_name(x: &[u8], y: &[u8]) -> bool
 }
 
 // One byte more into a hash.
-fn hash_step(acc: u32, x: u8) -> u32
+pub fn hash_step(acc: u32, x: u8) -> u32
     ensures { result ≡ step_of acc x }
 {
     acc.wrapping_mul(FACTOR).wrapping_add(x as u32)

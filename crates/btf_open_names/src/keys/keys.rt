@@ -89,23 +89,23 @@ impl Key {
         section.get(self.name..).unwrap_or(&[])
     }
 
-    // Whether a holder's key has the same space and the same name.
-    pub fn is_same(self, section: &[u8], x: Option<Key>) -> bool
-        ensures { result ≡ same_list (loaded section.now x) (key_list section.now self) }
-    {
-        match x {
-            Some(x) => {
-                x.space == self.space
-                    && (x.name == self.name
-                        || same_name(x.from_name(section), self.from_name(section)))
-            }
-            None => false,
-        }
-    }
-
     pub fn hash(self, section: &[u8]) -> u32
         ensures { result ≡ hash_key (key_list section.now self) }
     {
         hash_name(self.from_name(section), u32::from(self.space))
+    }
+}
+
+// Whether two holders' keys have the same space and the same name. Without a space there is no name, so that all such are alike.
+pub fn same_key(section: &[u8], x: Option<Key>, y: Option<Key>) -> bool
+    ensures { result ≡ same_list (loaded section.now x) (loaded section.now y) }
+{
+    match (x, y) {
+        (Some(x), Some(y)) => {
+            x.space == y.space
+                && (x.name == y.name || same_name(x.from_name(section), y.from_name(section)))
+        }
+        (None, None) => true,
+        _ => false,
     }
 }

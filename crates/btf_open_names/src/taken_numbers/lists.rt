@@ -3,7 +3,7 @@ ghost use Rattle.std.specs.Prelude.{◌≡◌, ◌-◌, ◌<◌};
 ghost use Rattle.btf_open_names.specs.filled_work.Takers.{listed_on, taker_put, with_takers, takers_in};
 ghost use Rattle.btf_open_names.specs.hash_table.Hashed.{TableIf};
 
-use crate::hash_table::make_table;
+use crate::hash_table::{clear_table, make_table};
 use crate::holders::{Holders, Links};
 use crate::keys::load_key;
 use crate::suffixes::{Base, has_suffix};
@@ -55,8 +55,7 @@ fn put_takers(all: &Holders, work: &mut [u8])
         put_taker(all, work, h, has_table);
     }
     if has_table {
-        all.clear(work, cell::TABLE_LINK);
-        all.clear(work, cell::TABLE_BUCKET);
+        clear_table(work, all.table.head.types, all.n);
     }
 }
 

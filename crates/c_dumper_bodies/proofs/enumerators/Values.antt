@@ -3,7 +3,7 @@ use Prim.Native.Nat.{ℕ, suc, ◌+◌, ◌-◌, ◌<◌, ◌≤◌}
 use mathlib.Core.Path.{◌≡◌, refl, ap, ap₂, ◌∙◌, sym}
 use mathlib.Core.List.{List, [], ◌∷◌, ◌++◌, append_assoc}
 use native.Mathlib.Omega.{arith}
-use Rattle.std.specs.Prelude.{min, true, false, leb, Option, Err, IsErrAnd}
+use Rattle.std.specs.Prelude.{min, true, false, leb, Some, unwrap_or, Err, IsErrAnd}
 use Rattle.spec_bytes.specs.declared.refusal.Refusal.{Refusal}
 use Rattle.std.proofs.lemmas.Bool.Decides.{nat_tests}
 use Rattle.spec_bytes.specs.text.Text.{ascii, pfx, whole, join}
@@ -21,8 +21,7 @@ use Rattle.spec_type_table.specs.Names.{str_at}
 use Rattle.spec_type_table.specs.Table.{from, work_naming, value_version_in, enumerator_of}
 use Rattle.spec_type_table.proofs.Frame.{enumerator_value_version}
 use Rattle.c_dumper_name_versions.specs.declared.names.versions.Name.{Name as Code}
-use Rattle.c_dumper_name_versions.specs.names.Spelling.{number_of, numbered, name_text}
-use Rattle.c_dumper_name_versions.proofs.names.Spellings.{numbered_as}
+use Rattle.c_dumper_name_versions.specs.names.Spelling.{name_text}
 use Rattle.c_dumper_name_versions.proofs.names.Resolve.{put_value_name}
 use Rattle.c_dumper_bodies.specs.enumerators.Heads.{value_head}
 
@@ -40,13 +39,13 @@ number_is w id first j e = within (first + j) ∙ ap (λ (x : ℕ). elim (leb (x
 
 -- ---- emit_enumerator: the name's place and version are those of the rule
 pub head_put : (b : TypeTable) (s : List ℕ) (types e off lvl : ℕ) (n : Code) (w w' t : List ℕ) (at p : Placed) (t₁ : List ℕ) (q : Placed) (t₂ : List ℕ) (o : Placed) (t₃ : List ℕ) (r : Placed) (u : List ℕ)
-    → (n.off ≡ off) × (n.number ≡ number_of (value_version_in types e w).version) × (w' ≡ (value_version_in types e w).names)
+    → (n.off ≡ off) × (unwrap_or n.number 0 ≡ (value_version_in types e w).version) × (w' ≡ (value_version_in types e w).names)
     → put_out p t₁ ≡ put_text t at (whole (ascii "\n")) → put_out q t₂ ≡ put_text t₁ p (whole (pfx lvl)) → put_out o t₃ ≡ put_text t₂ q (whole (name_text b s n)) → put_out r u ≡ put_text t₃ o (whole (ascii " = "))
     → (put_out r u ≡ put_text t at (whole (value_head lvl (spelled (str_at b s off) (value_version_in types e w).version)))) × (w' ≡ (value_version_in types e w).names)
 unfolding value_head
 head_put b s types e off lvl n w w' t at p t₁ q t₂ o t₃ r u k e₁ e₂ e₃ e₄ = (
-  put_seq _ _ _ _ _ _ _ _ (put_seq _ _ _ _ _ _ _ _ (put_seq _ _ _ _ _ _ _ _ e₁ e₂) e₃) e₄ ∙ ap₂ (λ (x : ℕ) (y : Option ℕ). put_text t at (whole (ascii "\n" ++ pfx lvl ++ numbered (str_at b s x) y ++ ascii " = "))) k.0 k.1
-      ∙ ap (λ (x : List ℕ). put_text t at (whole (ascii "\n" ++ pfx lvl ++ x ++ ascii " = "))) (numbered_as (value_version_in types e w).version (str_at b s off)),
+  put_seq _ _ _ _ _ _ _ _ (put_seq _ _ _ _ _ _ _ _ (put_seq _ _ _ _ _ _ _ _ e₁ e₂) e₃) e₄
+      ∙ ap₂ (λ (x y : ℕ). put_text t at (whole (ascii "\n" ++ pfx lvl ++ spelled (str_at b s x) y ++ ascii " = "))) k.0 k.1,
   k.2,
 )
 
@@ -70,11 +69,10 @@ module _ (b : TypeTable) (s : List ℕ) (id i e off lvl : ℕ) (val w w' : List 
       → put_out c t₂ ≡ put_text t₁ a (whole val) → put_out q t₃ ≡ put_text t₂ c (whole (ascii ","))
       → out_of q t₃ w' ≡ put_said t at (resolve_name (work_naming b) id i (str_at b s off) (line lvl val) w)
   line_put t at a t₁ c t₂ q t₃ e₁ e₂ e₃ =
-      let n : Code = record { off = off; number = number_of (value_version_in b.types e w).version } in
+      let n : Code = record { off = off; number = Some (value_version_in b.types e w).version } in
       put_value_name b s id i e off n w w' (line lvl val) t at q t₃ w' ee (refl, refl, ew)
       (put_only t at (value_head lvl (spelled (str_at b s off) (value_version_in b.types e w).version) ++ val ++ ascii ",") w' q t₃ (put_seq _ _ _ _ _ _ _ _ (put_seq _ _ _ _ _ _ _ _ e₁ e₂) e₃)
-      ∙ ap (put_said t at) (line_is lvl (spelled (str_at b s off) (value_version_in b.types e w).version) val w')
-      ∙ ap (λ (x : List ℕ). put_said t at (line lvl val x w')) (sym (numbered_as (value_version_in b.types e w).version (str_at b s off))))
+      ∙ ap (put_said t at) (line_is lvl (spelled (str_at b s off) (value_version_in b.types e w).version) val w'))
 
 -- ---- the loop
 pub from_more : {E : Type 0} (f : ℕ → E) (k n : ℕ) → k < n → from f k (n - k) ≡ f k ∷ from f (k + 1) (n - (k + 1))

@@ -10,6 +10,7 @@ use lib.IntN.{ℤ, negsuc}
 use mir.Syntax.{Width, w32, w64}
 use mir.Val.{bits, hbits, Fits, SFits, to_z, of_z}
 use mir.ValLaws.{to_z-of_z, to_z_pos, pow-bits}
+use Rattle.spec_bytes.specs.words.Words.{pick}
 use Rattle.spec_bytes.specs.text.Text.{ascii, whole}
 use Rattle.spec_bytes.specs.text.Placed.{Placed, put_out, put_text}
 use Rattle.spec_bytes.specs.text.Decimal.{decimal}
@@ -23,7 +24,7 @@ use Rattle.spec_type_table.specs.declared.types.Entries.{Entries}
 use Rattle.spec_type_table.specs.Names.{str_at}
 use Rattle.spec_type_table.specs.Records.{section_word, vlen_of, kind_of, flag_of, member_at, param_at, entries_of}
 use Rattle.spec_type_table.specs.Table.{from, value_of, value64_of, values_of, values64_of, work_naming}
-use Rattle.c_dumper_bodies.specs.enums.Widths.{is_wide, value_text, enumerator_at, enum_values, value_at}
+use Rattle.c_dumper_bodies.specs.enums.Widths.{is_wide, value_text, enumerator_at, enum_values}
 
 -- ---- two's complement, of either width
 
@@ -83,24 +84,14 @@ module _ (t : List ℕ) (p r : Placed) (u : List ℕ) (w f : Bool) (b : TypeTabl
   unfolding value_text enumerator_at value_of
   put_narrow h e o = width_is false h (o ∙ ap (λ (x : ℕ). put_text t p (whole (enum_value f x))) e)
 
--- ---- the place of a value
-module _ (w : Bool) (at k place : ℕ) where
-  pub place_wide : w ≡ true → place ≡ member_at at k → place ≡ value_at w at k
-  unfolding value_at
-  place_wide h e = rw h e
-
-  pub place_narrow : w ≡ false → place ≡ param_at at k → place ≡ value_at w at k
-  unfolding value_at
-  place_narrow h e = rw h e
-
 -- ---- what is read of a value is what the table has
 module _ (b : TypeTable) (s : List ℕ) (at k : ℕ) where
-  name_is : (w : Bool) → str_at b s (section_word b s (value_at w at k)) ≡ (enumerator_at w b s at k).name
-  unfolding value_at enumerator_at value_of value64_of
+  name_is : (w : Bool) → str_at b s (section_word b s (pick w (member_at at k) (param_at at k))) ≡ (enumerator_at w b s at k).name
+  unfolding enumerator_at value_of value64_of
   name_is true = refl
   name_is false = refl
 
-  pub value_name : (w : Bool) (place off : ℕ) → place ≡ value_at w at k → off ≡ section_word b s place → str_at b s off ≡ (enumerator_at w b s at k).name
+  pub value_name : (w : Bool) (place off : ℕ) → place ≡ pick w (member_at at k) (param_at at k) → off ≡ section_word b s place → str_at b s off ≡ (enumerator_at w b s at k).name
   value_name w place off ep eo = ap (str_at b s) (eo ∙ ap (section_word b s) ep) ∙ name_is w
 
 -- the entries, the width and the sign are the record's

@@ -4,7 +4,7 @@ use Rattle.spec_c_dumper.specs.rules.Types.{Enumerator}
 use Rattle.spec_c_dumper.specs.rules.Decl.{enum_value, enum64_value}
 use Rattle.spec_type_table.specs.declared.types.TypeTable.{TypeTable}
 use Rattle.spec_type_table.specs.declared.types.BtfType.{BtfType as Record}
-use Rattle.spec_type_table.specs.Records.{vlen_of, kind_of, member_at, param_at}
+use Rattle.spec_type_table.specs.Records.{vlen_of, kind_of}
 use Rattle.spec_type_table.specs.Table.{from, value_of, value64_of}
 
 -- whether values are of 64 bits
@@ -21,7 +21,3 @@ enumerator_at wide b s = elim wide [ true ↦ value64_of b s | false ↦ value_o
 
 abbrev pub enum_values : TypeTable → List ℕ → Record → List Enumerator
 enum_values b s t = from (enumerator_at (is_wide t) b s t.at) 0 (vlen_of t.info)
-
--- the place of value k
-unfoldable pub value_at : Bool → ℕ → ℕ → ℕ
-value_at wide at k = elim wide [ true ↦ member_at at k | false ↦ param_at at k ]

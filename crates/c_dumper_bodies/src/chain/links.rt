@@ -1,5 +1,6 @@
 // The declarator chain: from a type through pointers, arrays, qualifiers, prototypes and type tags to its base. A chain is
-// only popped, so it is kept as the id that it starts from and how many entries it has: entry k is k steps from there.
+// only popped, so it is kept as the id that it starts from and how many entries it has: entry k is k steps from there. (Two numbers and no
+// struct: the id is the declarator's, which callers hold, and the count falls, so that a struct would be made anew for each call.)
 ghost use Rattle.std.specs.Prelude.{◌≡◌, []};
 ghost use Rattle.spec_c_dumper.specs.rules.Decl.{chain_of};
 ghost use Rattle.spec_type_table.specs.Table.{btf_of};

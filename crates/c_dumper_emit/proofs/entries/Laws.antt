@@ -57,37 +57,37 @@ entries_other (suc k) l l' h =
     ap (λ (es : List Entry). es ++ (entry_at l' k ∷ [])) (entries_other k l l' (λ i q. h i (omega arith)))
     ∙ (λ i. entries_of k l ++ (entry (h (k * 3) (omega arith) i) (h (k * 3 + 1) (omega arith) i) (h (k * 3 + 2) (omega arith) i) ∷ []))
 
-pub entries_more : (k : ℕ) (l : List ℕ) (e : Origin) → k < length l / 12 → entries_of (k + 1) (entry_put l k e) ≡ entries_of k l ++ (entry_of e ∷ [])
+pub entries_more : (k : ℕ) (l : List ℕ) (e : Entry) → k < length l / 12 → entries_of (k + 1) (entry_put l k e) ≡ entries_of k l ++ (e ∷ [])
 unfolding entries_of entry_put entry_at
 entries_more k l e h =
     rw add-one
-    (ap (λ (es : List Entry). es ++ (entry_at (entry_put l k e) k ∷ [])) (entries_other k l (entry_put l k e) (λ i q. get_put_other l₂ (k * 3 + 2) i e.leader (λ z. omega arith) ∙ get_put_other l₁ (k * 3 + 1) i (cause_code e.cause) (λ z. omega arith) ∙ get_put_other l (k * 3) i e.id (λ z. omega arith)))
+    (ap (λ (es : List Entry). es ++ (entry_at (entry_put l k e) k ∷ [])) (entries_other k l (entry_put l k e) (λ i q. get_put_other l₂ (k * 3 + 2) i e.leader (λ z. omega arith) ∙ get_put_other l₁ (k * 3 + 1) i e.cause (λ z. omega arith) ∙ get_put_other l (k * 3) i e.id (λ z. omega arith)))
     ∙ (λ i. entries_of k l ++ (entry (first i) (second i) (third i) ∷ [])))
   where
     l₁ : List ℕ
     l₁ = put_word l (k * 3) e.id
 
     l₂ : List ℕ
-    l₂ = put_word l₁ (k * 3 + 1) (cause_code e.cause)
+    l₂ = put_word l₁ (k * 3 + 1) e.cause
 
     len₁ : length l₁ ≡ length l
     len₁ = put_length l (k * 3) e.id
 
     len₂ : length l₂ ≡ length l
-    len₂ = put_length l₁ (k * 3 + 1) (cause_code e.cause) ∙ len₁
+    len₂ = put_length l₁ (k * 3 + 1) e.cause ∙ len₁
 
     first : get_word (put_word l₂ (k * 3 + 2) e.leader) (k * 3) ≡ e.id
-    first = get_put_other l₂ (k * 3 + 2) (k * 3) e.leader (λ z. omega arith) ∙ get_put_other l₁ (k * 3 + 1) (k * 3) (cause_code e.cause) (λ z. omega arith) ∙ get_put_same l (k * 3) e.id (omega arith)
+    first = get_put_other l₂ (k * 3 + 2) (k * 3) e.leader (λ z. omega arith) ∙ get_put_other l₁ (k * 3 + 1) (k * 3) e.cause (λ z. omega arith) ∙ get_put_same l (k * 3) e.id (omega arith)
 
-    second : get_word (put_word l₂ (k * 3 + 2) e.leader) (k * 3 + 1) ≡ cause_code e.cause
-    second = get_put_other l₂ (k * 3 + 2) (k * 3 + 1) e.leader (λ z. omega arith) ∙ get_put_same l₁ (k * 3 + 1) (cause_code e.cause) (omega (arith, len₁))
+    second : get_word (put_word l₂ (k * 3 + 2) e.leader) (k * 3 + 1) ≡ e.cause
+    second = get_put_other l₂ (k * 3 + 2) (k * 3 + 1) e.leader (λ z. omega arith) ∙ get_put_same l₁ (k * 3 + 1) e.cause (omega (arith, len₁))
 
     third : get_word (put_word l₂ (k * 3 + 2) e.leader) (k * 3 + 2) ≡ e.leader
     third = get_put_same l₂ (k * 3 + 2) e.leader (omega (arith, len₂))
 
-pub put_is : (l : List ℕ) (k : ℕ) (e : Origin) (v : ℕ) (l₁ l₂ l₃ : List ℕ) → v ≡ cause_code e.cause → l₁ ≡ put_word l (k * 3) e.id → l₂ ≡ put_word l₁ (k * 3 + 1) v → l₃ ≡ put_word l₂ (k * 3 + 2) e.leader → l₃ ≡ entry_put l k e
+pub put_is : (l : List ℕ) (k id cause leader : ℕ) (l₁ l₂ l₃ : List ℕ) → l₁ ≡ put_word l (k * 3) id → l₂ ≡ put_word l₁ (k * 3 + 1) cause → l₃ ≡ put_word l₂ (k * 3 + 2) leader → l₃ ≡ entry_put l k (entry id cause leader)
 unfolding entry_put
-put_is l k e v l₁ l₂ l₃ ev e₁ e₂ e₃ = rw (e₃, e₂, e₁, ev)
+put_is l k id cause leader l₁ l₂ l₃ e₁ e₂ e₃ = rw (e₃, e₂, e₁)
 
 -- ---- which entry
 pub cause_own : (req turn : ℕ) (leads : List ℕ) (x : ℕ) → x ≡ req → entry x 0 x ≡ entry_in req turn leads x
@@ -257,12 +257,15 @@ module _ (n : ℕ) (p : Pen) (t w l : List ℕ) where
   unfolding note_n
   note_full room e h = stop_sheet TextFull (λ m. note_n room e m) (rw (entries_length p.count l, le-ltb p.count room h, note_n))
 
-  pub note_more : (e : Origin) (l' : List ℕ) → p.count < length l / 12 → l' ≡ entry_put l p.count e → noted_out n (Ok (record { at = p.at; count = p.count + 1 })) t w l' ≡ obind Here (λ m. note_n (length l / 12) (entry_of e) m)
+  pub note_more : (e : Entry) (l' : List ℕ) → p.count < length l / 12 → l' ≡ entry_put l p.count e → noted_out n (Ok (record { at = p.at; count = p.count + 1 })) t w l' ≡ obind Here (λ m. note_n (length l / 12) e m)
   unfolding note_n
   note_more e l' h el =
       goes n (record { at = p.at; count = p.count + 1 }) t w l'
       ∙ ap (λ (es : List Entry). wrote (record { mach = sheet n p.at t w; entries = es })) (ap (entries_of (p.count + 1)) el ∙ entries_more p.count l e h)
-      ∙ sym (run n t w l p (λ m. note_n (length l / 12) (entry_of e) m) ∙ rw (entries_length p.count l, lt-ltb p.count (length l / 12) h, note_n))
+      ∙ sym (run n t w l p (λ m. note_n (length l / 12) e m) ∙ rw (entries_length p.count l, lt-ltb p.count (length l / 12) h, note_n))
+
+  pub note_by : (o : Origin) (v room : ℕ) (x : Out (Noted Sheet)) → v ≡ cause_code o.cause → x ≡ obind Here (λ m. note_n room (entry o.id v o.leader) m) → x ≡ obind Here (λ m. note_n room (entry_of o) m)
+  note_by o v room x e h = h ∙ ap (λ (k : ℕ). obind Here (λ m. note_n room (entry o.id k o.leader) m)) e
 
   pub noteif_yes : (f : Bool) (room : ℕ) (e : Entry) (x : Out (Noted Sheet)) → f ≡ true → x ≡ obind Here (λ m. note_n room e m) → x ≡ obind Here (λ m. note_if_n f room e m)
   unfolding note_if_n

@@ -39,8 +39,8 @@ cause_code EarlyTypedef = 3
 abbrev pub entry_of : Origin → Entry
 entry_of e = entry e.id (cause_code e.cause) e.leader
 
-unfoldable pub entry_put : List ℕ → ℕ → Origin → List ℕ
-entry_put l k e = put_word (put_word (put_word l (k * 3) e.id) (k * 3 + 1) (cause_code e.cause)) (k * 3 + 2) e.leader
+unfoldable pub entry_put : List ℕ → ℕ → Entry → List ℕ
+entry_put l k e = put_word (put_word (put_word l (k * 3) e.id) (k * 3 + 1) e.cause) (k * 3 + 2) e.leader
 
 -- what the code's place and count say, with text, work and list at that moment, or its refusal; n: the length of the order list
 unfoldable pub noted_out : ℕ → Result Pen Refusal → List ℕ → List ℕ → List ℕ → Out (Noted Sheet)

@@ -16,10 +16,8 @@ use Rattle.spec_type_table.specs.Numbers.{number_at}
 use Rattle.spec_type_table.specs.Names.{str_at}
 use Rattle.spec_type_table.specs.Table.{work_naming, type_version_in, value_version_in, enumerator_of}
 use Rattle.c_dumper_name_versions.specs.declared.names.versions.Name.{Name}
-use Rattle.c_dumper_name_versions.specs.names.Spelling.{number_of, numbered, name_text}
-use Rattle.c_dumper_name_versions.proofs.names.Spellings.{number_none, numbered_as}
-use Rattle.std.specs.Prelude.{Option, None}
-use native.Mathlib.Omega.{arith}
+use Rattle.c_dumper_name_versions.specs.names.Spelling.{name_text}
+use Rattle.std.specs.Prelude.{None, unwrap_or}
 
 put_name_of : (a a' w w' : List ℕ) → put a w ≡ put a' w' → a ≡ a'
 unfolding put said_text bytes
@@ -85,10 +83,10 @@ module _ (types e : ℕ) (w : List ℕ) where
   no_version h = rw (le-ltb (types + e) 4294967296 h, value_version_in)
 
   pub value_past : (off : ℕ) (n : Name) → n ≡ record { off = off; number = None } → 4294967296 ≤ types + e
-      → (n.off ≡ off) × (n.number ≡ number_of (value_version_in types e w).version) × (w ≡ (value_version_in types e w).names)
+      → (n.off ≡ off) × (unwrap_or n.number 0 ≡ (value_version_in types e w).version) × (w ≡ (value_version_in types e w).names)
   value_past off n en h = (
     ap (λ (x : Name). x.off) en,
-    ap (λ (x : Name). x.number) en ∙ sym (number_none 0 (omega arith)) ∙ ap (λ (x : Resolved (List ℕ)). number_of x.version) (no_version h),
+    ap (λ (x : Name). unwrap_or x.number 0) en ∙ ap (λ (x : Resolved (List ℕ)). x.version) (no_version h),
     ap (λ (x : Resolved (List ℕ)). x.names) (no_version h),
   )
 
@@ -116,18 +114,17 @@ put_type_name b space₀ space id name n w w' k t at r t'' w'' e o = o ∙ ap (p
 -- after resolve_name, of enumerator e, which is value i of enum id
 pub resolved_value : (b : TypeTable) (s : List ℕ) (id i e off : ℕ) (n : Name) (w w' : List ℕ) (k : List ℕ → Writer (List ℕ))
     → e ≡ enumerator_of w id i
-    → (n.off ≡ off) × (n.number ≡ number_of (value_version_in b.types e w).version) × (w' ≡ (value_version_in b.types e w).names)
+    → (n.off ≡ off) × (unwrap_or n.number 0 ≡ (value_version_in b.types e w).version) × (w' ≡ (value_version_in b.types e w).names)
     → k (name_text b s n) w' ≡ resolve_name (work_naming b) id i (str_at b s off) k w
 unfolding resolve_name resolving work_naming
 resolved_value b s id i e off n w w' k ee q =
-    ap₂ (λ (x : ℕ) (y : Option ℕ). k (numbered (str_at b s x) y) w') q.0 q.1
-    ∙ ap (λ (x : List ℕ). k x w') (numbered_as (value_version_in b.types e w).version (str_at b s off))
+    ap₂ (λ (x y : ℕ). k (spelled (str_at b s x) y) w') q.0 q.1
     ∙ ap (λ (x : List ℕ). k (spelled (str_at b s off) (value_version_in b.types e w).version) x) q.2
     ∙ ap (λ (x : ℕ). k (spelled (str_at b s off) (value_version_in b.types x w).version) (value_version_in b.types x w).names) ee
 
 pub put_value_name : (b : TypeTable) (s : List ℕ) (id i e off : ℕ) (n : Name) (w w' : List ℕ) (k : List ℕ → Writer (List ℕ)) (t : List ℕ) (at r : Placed) (t'' w'' : List ℕ)
     → e ≡ enumerator_of w id i
-    → (n.off ≡ off) × (n.number ≡ number_of (value_version_in b.types e w).version) × (w' ≡ (value_version_in b.types e w).names)
+    → (n.off ≡ off) × (unwrap_or n.number 0 ≡ (value_version_in b.types e w).version) × (w' ≡ (value_version_in b.types e w).names)
     → out_of r t'' w'' ≡ put_said t at (k (name_text b s n) w')
     → out_of r t'' w'' ≡ put_said t at (resolve_name (work_naming b) id i (str_at b s off) k w)
 put_value_name b s id i e off n w w' k t at r t'' w'' ee q o = o ∙ ap (put_said t at) (resolved_value b s id i e off n w w' k ee q)

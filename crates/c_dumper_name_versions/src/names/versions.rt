@@ -1,6 +1,6 @@
 // Names as they are printed. The first holder of a name prints it bare; the n-th, from 2 on, adds three underscores and n, or a
 // later number where opening listed numbers that are passed over.
-ghost use Rattle.std.specs.Prelude.{◌≡◌, None, Ok};
+ghost use Rattle.std.specs.Prelude.{◌≡◌, None, Some, Ok, unwrap_or};
 ghost use Rattle.spec_bytes.specs.text.Text.{whole};
 ghost use Rattle.spec_bytes.specs.text.Placed.{put_out, put_text};
 ghost use Rattle.spec_c_dumper.specs.rules.Writer.{put};
@@ -9,7 +9,7 @@ ghost use Rattle.spec_c_dumper.specs.rules.Names.{tag_space, resolve_type_name};
 ghost use Rattle.spec_c_dumper.specs.rules.Decl.{sep_name};
 ghost use Rattle.spec_type_table.specs.Names.{str_at};
 ghost use Rattle.spec_type_table.specs.Table.{work_naming, value_version_in};
-ghost use Rattle.c_dumper_name_versions.specs.names.Spelling.{number_of, name_text, name_after};
+ghost use Rattle.c_dumper_name_versions.specs.names.Spelling.{name_text, name_after};
 
 use base_bytes::put::{put_byte, put_decimal};
 use base_bytes::refusal::Refusal;
@@ -24,7 +24,7 @@ use spec_type_table::TypeTable;
 // From this holder of a name on, its number is printed.
 const SECOND: u32 = 2;
 
-// A name by its offset in the string area, and the number that is printed after it, if any.
+// A name by its offset in the string area, and which of its holders prints it; None for a name by itself.
 #[derive(Clone, Copy)]
 pub struct Name {
     pub off: u32,
@@ -41,11 +41,8 @@ impl Name {
 
     // The name of its n-th holder.
     fn held(off: u32, n: u32) -> Name
-        ensures { result ≡ record { off = off; number = number_of n } }
+        ensures { result ≡ record { off = off; number = Some n } }
     {
-        if n < SECOND {
-            return Name::bare(off);
-        }
         Name {
             off,
             number: Some(n),
@@ -74,7 +71,7 @@ pub fn resolve_type_name(b: &Table, work: &mut [u8], x: TypeRef) -> Name
 
 // The name of enumerator e, counted over all enums: each time it is printed it is one more holder.
 pub fn resolve_name(b: TypeTable, work: &mut [u8], e: u32, off: u32) -> Name
-    ensures { (result.off ≡ off) × (result.number ≡ number_of (value_version_in b.types e work.old).version)
+    ensures { (result.off ≡ off) × (unwrap_or result.number 0 ≡ (value_version_in b.types e work.old).version)
         × (work.new ≡ (value_version_in b.types e work.old).names) }
 {
     let Some(h) = b.types.checked_add(e) else {
@@ -88,9 +85,10 @@ pub fn put_name(b: &Table, text: &mut [u8], at: usize, name: Name) -> Result<usi
     ensures { put_out result text.new ≡ put_text text.old (Ok at) (whole (name_text b.now.head b.now.section.now name)) }
 {
     let a = b.put_str(text, at, name.off)?;
-    let Some(n) = name.number else {
+    let n = name.number.unwrap_or(0);
+    if n < SECOND {
         return Ok(a);
-    };
+    }
     let c = put_word(text, a, Word::Underscores)?;
     put_decimal(text, c, n as u64)
 }
@@ -99,10 +97,10 @@ pub fn put_name(b: &Table, text: &mut [u8], at: usize, name: Name) -> Result<usi
 pub fn is_blank(b: &Table, name: Name) -> bool
     ensures { result ≡ is_empty (name_text b.now.head b.now.section.now name) }
 {
-    match name.number {
-        None => b.is_empty(name.off),
-        Some(_) => false,
+    if name.number.unwrap_or(0) < SECOND {
+        return b.is_empty(name.off);
     }
+    false
 }
 
 // sep and the name: a space before it, unless it is empty.

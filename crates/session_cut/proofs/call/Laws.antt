@@ -1,10 +1,10 @@
 -- A law for each return. Assumes nothing.
-use Prim.Native.Nat.{ℕ, zero, suc, ◌+◌, ◌/◌, ◌≤◌}
+use Prim.Native.Nat.{ℕ, zero, suc, ◌+◌, ◌/◌, ◌<◌, ◌≤◌}
 use native.Mathlib.Omega.{arith}
 use mathlib.Core.Path.{◌≡◌, refl, sym, ◌∙◌, ap}
 use mathlib.Core.Bool.{Bool, true, false, not, ◌&&◌, ◌||◌, true≢false}
 use mathlib.Core.List.{List, [], ◌∷◌, ◌++◌}
-use lib.ListN.{length, drop}
+use lib.ListN.{length, get_or, drop}
 use lib.Dec.{ltb, eqb}
 use borrow.Author.Tests.{ltb-false, eqb-true, not-true, not-false}
 use Rattle.spec_bytes.specs.words.Words.{get_word, table, words}
@@ -26,7 +26,10 @@ use Rattle.session_cut.proofs.written.Claims.{twenty_three, cut_length, kept_wri
 use Rattle.session_cut.specs.call.Calls.{cut_of, passes, is_open_on, section_for, cut_by, cut_call}
 use Rattle.session_cut.specs.call.Code.{answered}
 use Rattle.std.specs.Option.{ok_or}
-use Rattle.std.specs.List.{list_any, range_with_len}
+use Rattle.std.specs.List.{list_any}
+use Rattle.std.specs.Simd.{first_chunks}
+use Rattle.std.specs.Int.{from_le_bytes, w32}
+use Rattle.session_cut_marks.proofs.marks.Laws.{chunk_word}
 use Rattle.std.proofs.Common.{Option, Some, None, Result, Ok, Err}
 use Rattle.spec_bytes.specs.declared.refusal.Refusal.{Refusal}
 use Rattle.spec_bytes.specs.declared.refusal.Refusal.TheVariants.{OutputShort}
@@ -66,16 +69,26 @@ module _ (given : List ℕ) (count : ℕ) where
   unfolding any_past
   past_none k = refl
 
-  past_from : (k n : ℕ) → list_any (λ (i : ℕ). not (ltb (get_word given i) count)) (range_with_len k n) ≡ any_past count (table (get_word given) k n)
-  past_from k zero = sym (past_none k)
-  past_from k (suc n) =
-      let z : k + 1 ≡ suc k = omega arith in
-      ap (λ (q : Bool). not (ltb (get_word given k) count) || q) (ap (λ (i : ℕ). list_any (λ (a : ℕ). not (ltb (get_word given a) count)) (range_with_len i n)) z ∙ past_from (suc k) n)
-      ∙ sym (past_open k n)
+  -- ids that are the words from k on
+  past_from : (n k : ℕ) (ids : List (List ℕ)) → length ids ≡ n → ((j : ℕ) → j < n → from_le_bytes w32 (get_or ids j []) ≡ get_word given (k + j))
+      → list_any (λ (id : List ℕ). not (ltb (from_le_bytes w32 id) count)) ids ≡ any_past count (table (get_word given) k n)
+  past_from zero k [] e w = sym (past_none k)
+  past_from zero k (id ∷ ids) e w = absurd (omega (arith, e))
+  past_from (suc n) k [] e w = absurd (omega (arith, e))
+  past_from (suc n) k (id ∷ ids) e w =
+      let first : k + 0 ≡ k = omega arith in
+      let here : from_le_bytes w32 id ≡ get_word given k = w 0 (omega arith) ∙ ap (get_word given) first in
+      let few : length ids ≡ n = omega (arith, e) in
+      let more : (j : ℕ) → j < n → from_le_bytes w32 (get_or ids j []) ≡ get_word given (suc k + j) =
+      λ j l. let b : suc j < suc n = omega (arith, l) in let p : k + suc j ≡ suc k + j = omega arith in w (suc j) b ∙ ap (get_word given) p in
+      (λ i. not (ltb (here i) count) || past_from n (suc k) ids few more i) ∙ sym (past_open k n)
 
-  pub past_is : list_any (λ (i : ℕ). not (ltb (get_word given i) count)) (range_with_len 0 (length given / 4)) ≡ any_past count (words given)
+  pub past_is : (ids : List (List ℕ)) → ids ≡ first_chunks 4 (length given / 4) given → length ids ≡ length given / 4
+      → list_any (λ (id : List ℕ). not (ltb (from_le_bytes w32 id) count)) ids ≡ any_past count (words given)
   unfolding words
-  past_is = past_from 0 (length given / 4)
+  past_is ids f l =
+      past_from (length given / 4) 0 ids l
+      (λ j h. let z : j ≡ 0 + j = omega arith in chunk_word given ids f j h ∙ ap (get_word given) z)
 
 -- ---- the index of the records
 -- what an Examined says

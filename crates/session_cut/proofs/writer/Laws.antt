@@ -8,24 +8,28 @@ use Rattle.std.specs.Int.{to_be_bytes, to_le_bytes}
 use Rattle.std.specs.Prelude.{Ok, map}
 use Rattle.std.specs.List.{range_with_len, sum, fold}
 use mathlib.Core.Bool.{Bool, true, false}
+use mathlib.Core.Logic.{⊎_elim}
+use Rattle.std.proofs.lemmas.Bool.{cases_lt}
 use Rattle.std.proofs.Common.{Option, Some, None, unwrap_or}
 use mathlib.Core.List.{List, [], ◌∷◌, ◌++◌}
 use lib.ListN.{length, get_or, drop, length-append}
 use lib.Dec.{eqb}
 use mir.Syntax.{w32}
 use borrow.Author.Tests.{eq-eqb, ne_eqb, lt-ltb, le-ltb}
+use Rattle.spec_bytes.specs.words.Words.{pick}
 use Rattle.spec_bytes.specs.text.Text.{whole, bytes}
 use Rattle.spec_bytes.specs.text.Placed.{Placed, put_out, written, put_text}
 use Rattle.spec_bytes.proofs.text.TextLaws.{put_fits, went, put_seq}
 use Rattle.spec_c_dumper.specs.rules.Types.{is_empty}
 use Rattle.spec_type_table.specs.declared.types.TypeTable.{TypeTable}
 use Rattle.spec_type_table.specs.Names.{str_at}
+use Rattle.spec_type_table.specs.Records.{section_word, vlen_of}
 use Rattle.btf_open_causes.specs.references.Followed.{type_count, entry_at}
 use Rattle.btf_open_causes.proofs.references.First.{none_some}
 use Rattle.session_cut_marks.specs.tags.Tags.{some_number}
-use Rattle.session_cut_marks.specs.roles.Words.{role, words_in, word_of}
+use Rattle.session_cut_marks.specs.roles.Words.{digit_at, fixed_words, entry_words, roles, column, role, words_in, word_of}
 use Rattle.session_cut_marks.proofs.roles.Laws.{words_few}
-use Rattle.session_cut_marks.specs.mentioned.Names.{is_name, named_to, first_from, first_name, mentions, is_new, new_sizes, base_of, place_at, place_from, place_of, zero_bases}
+use Rattle.session_cut_marks.specs.mentioned.Names.{is_name, or_name, named_to, first_from, first_name, mentions, is_new, new_sizes, base_of, place_at, place_from, place_of, zero_bases}
 use Rattle.session_cut_marks.specs.mentioned.Strings.{strings_bytes}
 use Rattle.session_cut_marks.proofs.mentioned.Sizes.{strings_length}
 use Rattle.session_cut_marks.specs.interned.Slots.{found, slot_place}
@@ -36,6 +40,32 @@ use Rattle.session_cut_marks.proofs.interned.Places.{base_up}
 use Rattle.session_cut_marks.proofs.interned.Found.{found_place, first_is, new_place}
 use Rattle.session_cut.specs.writer.Bytes.{word_bytes, magic_bytes, head_bytes, type_size, types_size, new_word, types_bytes, all_bytes, sought, Wrote, wrote_of, fitting_written, kept_written}
 use Rattle.session_cut.proofs.writer.Sizes.{head_length, types_length}
+
+-- ---- past the types
+module _ (b : TypeTable) (s start ids : List ℕ) (off x : ℕ) (l : type_count b ≤ x) where
+  entry_past : entry_at b start x ≡ 0
+  unfolding entry_at
+  entry_past = rw (le-ltb x (type_count b) l, entry_at) (go (eqb x 0))
+    where
+      go : (q : Bool) → pick q 0 0 ≡ 0
+      go true = refl
+      go false = refl
+
+  void_words : words_in b s 0 ≡ 3
+  unfolding words_in fixed_words entry_words digit_at
+  void_words = let e : 3 + 0 * vlen_of (section_word b s 4) ≡ 3 = omega arith in e
+
+  void_silent : named_to b s 0 off 3 ≡ false
+  unfolding named_to or_name is_name role roles column entry_words digit_at
+  void_silent = refl
+
+  past_silent : mentions b s start ids off x ≡ false
+  unfolding mentions
+  past_silent = go (eqb (get_or ids x 0) 0)
+    where
+      go : (q : Bool) → (elim q as (λ z. Bool) [ true ↦ false | false ↦ named_to b s (entry_at b start x) off (words_in b s (entry_at b start x)) ]) ≡ false
+      go true = refl
+      go false = ap (λ (e : ℕ). named_to b s e off (words_in b s e)) entry_past ∙ ap (named_to b s 0 off) void_words ∙ void_silent
 
 slot_full : (v p : ℕ) → slot_place v ≡ Some p → v ≡ 0 → ⊥
 unfolding slot_place
@@ -158,9 +188,17 @@ module _ (b : TypeTable) (s : List ℕ) where
 
     module _ (bases : List ℕ) where
       module _ (off x : ℕ) where
-        pub place_unkept : get_or ids x 0 ≡ 0 → None ≡ some_number (place_at b s start ids bases off x)
+        place_zero : get_or ids x 0 ≡ 0 → None ≡ some_number (place_at b s start ids bases off x)
         unfolding place_at mentions some_number
-        place_unkept z = rw (eq-eqb (get_or ids x 0) 0 z, mentions, place_at)
+        place_zero z = rw (eq-eqb (get_or ids x 0) 0 z, mentions, place_at)
+
+        -- past the types an entry is void's, which has no name
+        place_past : type_count b ≤ x → None ≡ some_number (place_at b s start ids bases off x)
+        unfolding place_at some_number
+        place_past l = rw (past_silent b s start ids off x l, place_at)
+
+        pub place_unkept : (x < type_count b → get_or ids x 0 ≡ 0) → None ≡ some_number (place_at b s start ids bases off x)
+        place_unkept h = ⊎_elim (λ l. place_zero (h l)) place_past (cases_lt x (type_count b))
 
         module _ (kept : get_or ids x 0 ≡ 0 → ⊥) where
           pub place_none : (e : ℕ) → e ≡ entry_at b start x → (n : ℕ) → n ≡ words_in b s e → (r : Option ℕ) → r ≡ first_name b s e off n → r ≡ None → None ≡ some_number (place_at b s start ids bases off x)

@@ -19,7 +19,7 @@ use session_cut_marks::mentioned::{Word, first_name};
 use session_cut_marks::roles::{Role, word_of, word_role, words_in};
 
 // Where the table has the name of word j; none for another word and for the empty name.
-fn seek(b: &Table, table: &[Slot], e: Entry, j: u32) -> Option<u32>
+pub(crate) fn seek(b: &Table, table: &[Slot], e: Entry, j: u32) -> Option<u32>
     ensures { result ≡ sought b.now.head b.now.section.now (slot_words table.now) e.word j }
 {
     let Role::Name = word_role(e, j) else {
@@ -29,11 +29,11 @@ fn seek(b: &Table, table: &[Slot], e: Entry, j: u32) -> Option<u32>
     if b.is_empty(off) {
         return None;
     }
-    find(b, table, off)
+    Some(find(b, table, off)?.place)
 }
 
 // Whether a word mentions a name for the first time. `place`: where the table has it; `len`: the length of the strings before it.
-fn is_first(kept: &Kept, w: Word, place: Option<u32>, len: u32) -> bool
+pub(crate) fn is_first(kept: &Kept, w: Word, place: Option<u32>, len: u32) -> bool
     requires { (p : ℕ) → place ≡ Some p
         → eqb p len ≡ at_kept is_new kept.now w.x w.e.word w.j }
     ensures { result ≡ at_kept is_new kept.now w.x w.e.word w.j }
@@ -125,12 +125,14 @@ impl KeptType<'_> {
 }
 
 impl Source<'_> {
-    // Type x, if it is kept. (That x is below the count is asked: it comes from a range up to it, and no type of a number has a bound
-    // that a table gives.)
+    // Type x, if there is one and it is kept.
     pub(crate) fn kept_type(&self, x: u32) -> Option<KeptType<'_>>
-        requires { x < type_count self.now.kept.index.table.head }
-        ensures { MatchOption result (get_or self.now.kept.ids.now x 0 ≡ 0) (λ t. (t.source.now ≡ self.now) × (t.x ≡ x)) }
+        ensures { MatchOption result (x < type_count self.now.kept.index.table.head → get_or self.now.kept.ids.now x 0 ≡ 0)
+            (λ t. (t.source.now ≡ self.now) × (t.x ≡ x)) }
     {
+        if self.kept.index.count() <= x {
+            return None;
+        }
         if self.kept.new_id(x).is_none() {
             return None;
         }
@@ -144,7 +146,6 @@ impl Source<'_> {
 
     // Where the name stands, if type x is kept and mentions it. For the first such type it is its place in the strings.
     fn place_at(&self, off: u32, x: u32) -> Option<u32>
-        requires { x < type_count self.now.kept.index.table.head }
         ensures { result ≡ some_number (at_kept place_at self.now.kept self.now.bases.now off x) }
     {
         let t = self.kept_type(x)?;
@@ -161,7 +162,7 @@ impl Source<'_> {
     }
 
     // Where a name stands in the new strings.
-    fn place_of(&self, off: u32) -> u32
+    pub(crate) fn place_of(&self, off: u32) -> u32
         ensures { result ≡ at_kept place_of self.now.kept self.now.bases.now off }
     {
         if self.kept.index.table.is_empty(off) {

@@ -2,7 +2,8 @@
 ghost use Rattle.std.specs.Prelude.{◌≡◌, ◌+◌, ◌<◌, ℕ, Some};
 ghost use Rattle.session_cut_marks.specs.roles.Words.{words_in, word_of};
 ghost use Rattle.session_cut_marks.specs.mentioned.Names.{is_new, new_sizes, base_of, place_of};
-ghost use Rattle.session_cut_marks.specs.interned.Right.{all_bases, IsRight, IsRight-prop, IsKept, IsKept-prop};
+ghost use Rattle.session_cut_marks.specs.interned.Right.{all_bases, IsRight, IsKept};
+ghost use Rattle.session_cut_marks.proofs.interned.Props.{IsRight-prop, IsKept-prop};
 ghost use Rattle.session_cut_marks.specs.interned.Slots.{slot_words};
 ghost use Rattle.session_cut_marks.specs.kept.AtKept.{at_kept};
 ghost use Rattle.session_cut.specs.writer.Bytes.{is_told_new, told_place};

@@ -21,11 +21,21 @@ use session_cut_marks::interned::{SLOTS_LEN, Slot};
 use session_cut_marks::kept::Kept;
 use session_cut_marks::roles::{Role, word_role, words_in};
 
+// The only version, the length of the header, and where in it the flags stand.
+const VERSION: u8 = 1;
+
+const HEADER_LEN: u32 = 24;
+
+const FLAGS: usize = 3;
+
+// The types begin where the header ends.
+const TYPE_OFF: u32 = 0;
+
 // The lengths of the two areas.
 #[derive(Clone, Copy)]
-struct Sizes {
-    types: u32,
-    strings: u32,
+pub struct Sizes {
+    pub types: u32,
+    pub strings: u32,
 }
 
 // A word, the most significant byte first where `big`.
@@ -39,33 +49,27 @@ fn put_word(out: &mut [u8], at: usize, big: bool, v: u32) -> Result<usize, Refus
     }
 }
 
-// The magic number in the order of the bytes, version 1 and the flags.
+// The magic number in the order of the bytes, the version and the flags.
 fn put_magic(out: &mut [u8], at: usize, big: bool, flags: u8) -> Result<usize, Refusal>
     ensures { put_out result out.new ≡ put_text out.old (Ok at) (whole (magic_bytes big flags)) }
 {
     if big {
-        put_bytes(out, at, &[BIG_MAGIC[0], BIG_MAGIC[1], 1, flags])
+        put_bytes(out, at, &[BIG_MAGIC[0], BIG_MAGIC[1], VERSION, flags])
     } else {
-        put_bytes(out, at, &[LITTLE_MAGIC[0], LITTLE_MAGIC[1], 1, flags])
+        put_bytes(out, at, &[LITTLE_MAGIC[0], LITTLE_MAGIC[1], VERSION, flags])
     }
 }
 
-// The header of 24 bytes: types follow, then strings.
-pub fn put_head(
-    out: &mut [u8],
-    big: bool,
-    flags: u8,
-    types: u32,
-    strings: u32,
-) -> Result<usize, Refusal>
-    ensures { put_out result out.new ≡ put_text out.old (Ok 0) (whole (head_bytes big flags types strings)) }
+// The header: types follow, then strings.
+pub fn put_head(out: &mut [u8], big: bool, flags: u8, sizes: Sizes) -> Result<usize, Refusal>
+    ensures { put_out result out.new ≡ put_text out.old (Ok 0) (whole (head_bytes big flags sizes.types sizes.strings)) }
 {
     let p0 = put_magic(out, 0, big, flags)?;
-    let p1 = put_word(out, p0, big, 24)?;
-    let p2 = put_word(out, p1, big, 0)?;
-    let p3 = put_word(out, p2, big, types)?;
-    let p4 = put_word(out, p3, big, types)?;
-    put_word(out, p4, big, strings)
+    let p1 = put_word(out, p0, big, HEADER_LEN)?;
+    let p2 = put_word(out, p1, big, TYPE_OFF)?;
+    let p3 = put_word(out, p2, big, sizes.types)?;
+    let p4 = put_word(out, p3, big, sizes.types)?;
+    put_word(out, p4, big, sizes.strings)
 }
 
 // The length of the types.
@@ -153,8 +157,8 @@ impl KeptType<'_> {
 impl Source<'_> {
     // What the part has of type x: nothing, where it is not kept.
     fn put_kept(&self, x: u32, part: Part, out: &mut [u8], at: usize) -> Result<usize, Refusal>
-        requires { x < type_count self.now.kept.index.table.head }
-        ensures { put_out result out.new
+        ensures { x < type_count self.now.kept.index.table.head
+            → put_out result out.new
             ≡ put_text out.old (Ok at) (whole (at_kept kept_bytes self.now.kept self.now.bases.now part x)) }
     {
         let Some(t) = self.kept_type(x) else {
@@ -177,7 +181,7 @@ impl Source<'_> {
     }
 
     // The leading 0, and the new names.
-    fn put_strings(&self, out: &mut [u8], at: usize) -> Result<usize, Refusal>
+    pub(crate) fn put_strings(&self, out: &mut [u8], at: usize) -> Result<usize, Refusal>
         ensures { put_out result out.new
             ≡ put_text out.old (Ok at) (whole (at_kept strings_bytes self.now.kept (type_count self.now.kept.index.table.head))) }
     {
@@ -190,14 +194,8 @@ impl Source<'_> {
         ensures { put_out result out.new
             ≡ put_text out.old (Ok 0) (whole (at_kept all_bytes self.now.kept self.now.bases.now sizes.types sizes.strings)) }
     {
-        let flags = peek(self.kept.index.table.section, 3, 0);
-        let p = put_head(
-            out,
-            self.kept.index.table.head.big_endian,
-            flags,
-            sizes.types,
-            sizes.strings,
-        )?;
+        let flags = peek(self.kept.index.table.section, FLAGS, 0);
+        let p = put_head(out, self.kept.index.table.head.big_endian, flags, sizes)?;
         let q = self.put_part(Part::Records, out, p)?;
         self.put_strings(out, q)
     }
@@ -208,7 +206,7 @@ impl Source<'_> {
             × (sizes.strings ≡ at_kept base_of self.now.kept (type_count self.now.kept.index.table.head)) }
         ensures { wrote_of result out.new ≡ at_kept fitting_written self.now.kept self.now.bases.now sizes.types sizes.strings out.old }
     {
-        let len = 24 + sizes.types + sizes.strings;
+        let len = HEADER_LEN + sizes.types + sizes.strings;
         if limit::MOST_BYTES_32 < len {
             return None;
         }

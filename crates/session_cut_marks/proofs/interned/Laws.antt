@@ -4,6 +4,7 @@ use Rattle.std.proofs.lemmas.Bool.{not-true, not-false}
 use Rattle.std.proofs.Common.{Option, Some, None}
 use Rattle.std.specs.List.{find, range_with_len}
 use Rattle.std.specs.Option.{option_map, unwrap_or}
+use Rattle.std.proofs.lemmas.Iterator.Adapters.{option_map_id}
 use native.Mathlib.Omega.{arith}
 use native.Mathlib.Numerals.{add-one}
 use mathlib.Core.Path.{◌≡◌, refl, sym, ◌∙◌, ap}
@@ -24,8 +25,10 @@ use Rattle.btf_open_causes.specs.references.Followed.{type_count, entry_at}
 use Rattle.btf_open_names.specs.name_classes.Table.{hash_from}
 use Rattle.session_cut_marks.specs.declared.interned.slots.Slot.{Slot}
 use Rattle.session_cut_marks.specs.roles.Words.{role, words_in, word_of}
+use Rattle.session_cut_marks.specs.tags.Tags.{some_number}
+use Rattle.session_cut_marks.proofs.tags.Laws.{none_is, some_is}
 use Rattle.session_cut_marks.specs.mentioned.Names.{is_new, new_size, zero_bases}
-use Rattle.session_cut_marks.proofs.mentioned.Laws.{name_short, same_option}
+use Rattle.session_cut_marks.proofs.mentioned.Laws.{name_short}
 use Rattle.session_cut_marks.specs.interned.Slots.{slot_word, slot_words, stops, probe, slot_of, found, slot_place}
 use Rattle.session_cut_marks.specs.interned.Filled.{zero_table, Filled, filled_of, length_of, after, settled, entered, entered_to, entered_type, filled_to, lengths_to, filling_of, filling}
 
@@ -56,14 +59,27 @@ module _ (v : Slot) where
     unfolding slot_word
     word_off = omega (arith, l)
 
-    pub word_place : Some v.place ≡ Some (slot_word v / 4294967296)
+    word_place : v.place ≡ slot_word v / 4294967296
     unfolding slot_word
-    word_place = let e : v.place ≡ (v.off + v.place * 4294967296) / 4294967296 = omega (arith, l) in ap Some e
+    word_place = omega (arith, l)
 
-some_place : (v : ℕ) → (v ≡ 0 → ⊥) → slot_place v ≡ Some (v / 4294967296)
-unfolding slot_place
-some_place zero n = absurd (n refl)
-some_place (suc v) n = refl
+no_place : (n : ℕ) → some_number n ≡ None → None ≡ slot_place n
+unfolding some_number slot_place
+no_place zero h = refl
+no_place (suc n) h = cc
+
+some_place : (n w : ℕ) → some_number n ≡ Some w → Some (w / 4294967296) ≡ slot_place n
+unfolding some_number slot_place
+some_place zero w h = cc
+some_place (suc n) w h = let e : w ≡ suc n = cc in ap (λ (u : ℕ). Some (u / 4294967296)) e
+
+-- the place that a slot says
+module _ (r : Option Slot) (n : ℕ) (e : option_map slot_word r ≡ some_number n) where
+  pub place_none : r ≡ None → None ≡ slot_place n
+  place_none z = no_place n (sym e ∙ ap (option_map slot_word) z)
+
+  pub place_some : (v : Slot) → v.off < 4294967296 → r ≡ Some v → Some v.place ≡ slot_place n
+  place_some v l z = ap Some (word_place v l) ∙ some_place n (slot_word v) (sym e ∙ ap (option_map slot_word) z)
 
 module _ (b : TypeTable) (s t : List ℕ) where
   -- ---- slots
@@ -94,7 +110,7 @@ module _ (b : TypeTable) (s t : List ℕ) where
   unfolding slot_of
   slot_way off h r e f =
       let w : h % 262144 % 262144 ≡ h % 262144 = omega arith in
-      ap (λ (o : Option ℕ). unwrap_or o 262144) (sym (same_option r) ∙ f) ∙ probe_way (str_at b s off) 262144 (h % 262144)
+      ap (λ (o : Option ℕ). unwrap_or o 262144) (sym (option_map_id r) ∙ f) ∙ probe_way (str_at b s off) 262144 (h % 262144)
       ∙ ap (λ (u : ℕ). probe b s t (str_at b s off) u 262144) w
       ∙ ap (λ (u : ℕ). probe b s t (str_at b s off) (u % 262144) 262144) e
 
@@ -103,12 +119,11 @@ module _ (b : TypeTable) (s t : List ℕ) where
     unfolding found
     found_is = g ∙ ap (λ (j : ℕ). get_or t j 0) e
 
-    pub found_none : v ≡ 0 → None ≡ slot_place (found b s t off)
-    unfolding slot_place
-    found_none z = ap slot_place (sym z ∙ found_is)
+    pub found_none : v ≡ 0 → None ≡ some_number (found b s t off)
+    found_none z = none_is v z ∙ ap some_number found_is
 
-    pub found_some : (v ≡ 0 → ⊥) → Some (v / 4294967296) ≡ slot_place (found b s t off)
-    found_some n = sym (some_place v n) ∙ ap slot_place found_is
+    pub found_some : (v ≡ 0 → ⊥) → Some v ≡ some_number (found b s t off)
+    found_some n = sym (some_is v n) ∙ ap some_number found_is
 
 -- ---- the table filled
 

@@ -1,14 +1,17 @@
 -- A law for each return of the code, and for each loop its start, its turn and its end. Assumes nothing.
-use Prim.Native.Nat.{ℕ, zero, suc, ◌+◌, ◌-◌, ◌/◌, ◌%◌, ◌<◌, ◌≤◌}
+use Prim.Native.Nat.{ℕ, zero, suc, ◌+◌, ◌-◌, ◌*◌, ◌/◌, ◌%◌, ◌<◌, ◌≤◌}
 use native.Mathlib.Omega.{arith}
 use native.Mathlib.Numerals.{add-one}
 use mathlib.Core.Path.{◌≡◌, refl, sym, ◌∙◌, ap}
 use mathlib.Core.Bool.{Bool, true, false}
-use mathlib.Core.List.{List}
-use lib.ListN.{length, get_or, set}
+use mathlib.Core.List.{List, []}
+use lib.ListN.{length, get_or, set, drop}
+use Rattle.std.specs.Simd.{first_chunks}
+use Rattle.std.specs.Int.{from_le_bytes, w32}
+use Rattle.std.proofs.lemmas.List.{get_or-take, get_or-drop}
 use lib.Dec.{ltb, eqb}
 use borrow.Author.Tests.{eq-eqb, ne_eqb, eqb-true, lt-ltb, le-ltb, ltb-true}
-use Rattle.spec_bytes.specs.words.Words.{get_word}
+use Rattle.spec_bytes.specs.words.Words.{get_word, join_at, pick}
 use Rattle.spec_type_table.specs.declared.types.TypeTable.{TypeTable}
 use Rattle.btf_open_causes.specs.references.Followed.{type_count, entry_at, kind_at, place_of, count_at, id_at, followed_count, followed_id}
 use Rattle.btf_open_causes.specs.references.Zeros.{zeros}
@@ -49,6 +52,28 @@ none_pushed f h = refl
 pub more_pushed : (f : ℕ → ℕ) (h : Heap) (k : ℕ) (m st : List ℕ) (d : ℕ) (m' st' : List ℕ) (r y : ℕ) → heap m st d ≡ pushed_to f h k → y ≡ f k → heap m' st' r ≡ pushed (heap m st d) y → heap m' st' r ≡ pushed_to f h (k + 1)
 unfolding pushed_to
 more_pushed f h k m st d m' st' r y e q p = rw add-one (p ∙ (λ i. pushed (e i) (q i)))
+
+-- the given ids as chunks of four bytes
+chunk_byte : (n k j : ℕ) (s : List ℕ) → k < n → j < 4 → get_or (get_or (first_chunks 4 n s) k []) j 0 ≡ get_or s (k * 4 + j) 0
+chunk_byte zero k j s h l = absurd (omega (arith, h))
+chunk_byte (suc n) zero j s h l = let e : j ≡ 0 * 4 + j = omega arith in get_or-take 4 s j 0 l ∙ ap (λ i. get_or s i 0) e
+chunk_byte (suc n) (suc k) j s h l =
+    let b : k < n = omega (arith, h) in
+    let e : 4 + (k * 4 + j) ≡ suc k * 4 + j = omega arith in
+    chunk_byte n k j (drop 4 s) b l ∙ get_or-drop 4 s (k * 4 + j) 0 ∙ ap (λ i. get_or s i 0) e
+
+pub chunk_word : (s : List ℕ) (cs : List (List ℕ)) → cs ≡ first_chunks 4 (length s / 4) s → (k : ℕ) → k < length s / 4
+    → from_le_bytes w32 (get_or cs k []) ≡ get_word s k
+unfolding get_word
+chunk_word s cs f k h =
+    let byte : (j : ℕ) → j < 4 → get_or (get_or cs k []) j 0 ≡ get_or s (k * 4 + j) 0 =
+    λ j l. ap (λ x. get_or (get_or x k []) j 0) f ∙ chunk_byte (length s / 4) k j s h l in
+    let e : k * 4 + 0 ≡ k * 4 = omega arith in
+    let c0 : get_or (get_or cs k []) 0 0 ≡ get_or s (k * 4) 0 = byte 0 (omega arith) ∙ ap (λ i. get_or s i 0) e in
+    let c1 : get_or (get_or cs k []) 1 0 ≡ get_or s (k * 4 + 1) 0 = byte 1 (omega arith) in
+    let c2 : get_or (get_or cs k []) 2 0 ≡ get_or s (k * 4 + 2) 0 = byte 2 (omega arith) in
+    let c3 : get_or (get_or cs k []) 3 0 ≡ get_or s (k * 4 + 3) 0 = byte 3 (omega arith) in
+    (λ i. c0 i + c1 i * 256 + c2 i * 65536 + c3 i * 16777216) ∙ sym (ap (λ b. pick b (join_at s (k * 4)) 0) (lt-ltb k (length s / 4) h))
 
 pub all_followed : (b : TypeTable) (s start : List ℕ) (x e : ℕ) → e ≡ entry_at b start x → (n k : ℕ) → n ≡ count_at b s (e % 32) (e / 32) → k ≤ n → n ≤ k → (h h' : Heap) → h' ≡ pushed_to (id_at b s (e % 32) (e / 32)) h k
     → h' ≡ pushed_to (followed_id b s start x) h (followed_count b s start x)

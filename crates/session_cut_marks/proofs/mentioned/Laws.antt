@@ -9,6 +9,7 @@ use lib.Dec.{eqb}
 use lib.Pointwise.{pointwise}
 use Rattle.std.specs.List.{list_any, find, range_with_len}
 use Rattle.std.specs.Option.{option_map}
+use Rattle.std.proofs.lemmas.Iterator.Adapters.{option_map_id}
 use Rattle.std.proofs.Common.{Option, Some, None}
 use borrow.Author.Tests.{eq-eqb, ne_eqb}
 use Rattle.spec_c_dumper.specs.rules.Types.{is_empty}
@@ -41,10 +42,6 @@ any_last test a (suc n) =
 
 any_from_0 : (test : ℕ → Bool) (n : ℕ) → list_any test (range_with_len 0 (suc n)) ≡ (list_any test (range_with_len 0 n) || test n)
 any_from_0 test n = let z : 0 + n ≡ n = omega arith in any_last test 0 n ∙ ap (λ (k : ℕ). list_any test (range_with_len 0 n) || test k) z
-
-pub same_option : (r : Option ℕ) → option_map (λ y. y) r ≡ r
-same_option None = refl
-same_option (Some x) = refl
 
 module _ (b : TypeTable) (s : List ℕ) where
   pub name_short : (off : ℕ) → length (str_at b s off) ≤ length s
@@ -96,7 +93,7 @@ module _ (b : TypeTable) (s : List ℕ) where
   pub first_found : (e off n : ℕ) (r : Option ℕ) → option_map (λ y. y) r ≡ find (is_name b s e off) (range_with_len 0 n) → r ≡ first_name b s e off n
   unfolding first_name
   first_found e off n r h =
-      sym (same_option r) ∙ h ∙ first_of_range e off 0 n
+      sym (option_map_id r) ∙ h ∙ first_of_range e off 0 n
       ∙ ap (λ (q : Bool). elim q as (λ z. Option ℕ) [ true ↦ Some (first_from b s e off 0 n) | false ↦ None ]) (any_named e off n)
 
   module _ (start ids : List ℕ) where

@@ -1,12 +1,12 @@
 -- A law for each return of the code, and how large the digits and the counts are. Assumes nothing.
-use Prim.Native.Nat.{ℕ, zero, suc, ◌+◌, ◌-◌, ◌*◌, ◌/◌, ◌%◌, ◌<◌, ◌≤◌}
+use Prim.Native.Nat.{ℕ, zero, suc, ◌+◌, ◌-◌, ◌*◌, ◌/◌, ◌%◌, ◌≤◌}
 use native.Mathlib.Omega.{arith}
 use native.Mathlib.Nat.{mul-le-mul_right}
 use mathlib.Core.Path.{◌≡◌, refl, sym, ◌∙◌, ap}
 use mathlib.Core.List.{List, [], ◌∷◌}
 use mathlib.Core.Logic.{⊎_elim}
-use lib.ListN.{length}
-use borrow.Author.Tests.{eq-eqb, ne_eqb, lt-ltb, le-ltb}
+use lib.ListN.{length, get_or}
+use borrow.Author.Tests.{eq-eqb, ne_eqb, le-ltb}
 use Rattle.std.proofs.lemmas.Bool.{cases_lt}
 use Rattle.std.proofs.lemmas.List.{get_or_past}
 use Rattle.spec_bytes.specs.text.Text.{ascii}
@@ -38,21 +38,25 @@ entry_few k = digits_few (ascii "00003320000002030003") (omega arith, (omega ari
 
 -- ---- columns
 module _ (per j : ℕ) (l : 3 ≤ j) where
+  column_flat : per ≡ 0 → j ≡ column per j
+  unfolding column
+  column_flat z = rw (le-ltb j 3 l, column, eq-eqb per 0 z)
+
   column_two : per ≡ 2 → 3 + (j - 3) % 2 ≡ column per j
   unfolding column
-  column_two z = rw (le-ltb j 3 l, column, eq-eqb per 2 z)
+  column_two z = rw (le-ltb j 3 l, column, ne_eqb per 0 (λ u. omega (arith, z, u)), eq-eqb per 2 z)
 
-  column_three : (per ≡ 2 → ⊥) → 3 + (j - 3) % 3 ≡ column per j
+  column_three : per ≡ 3 → 3 + (j - 3) % 3 ≡ column per j
   unfolding column
-  column_three z = rw (le-ltb j 3 l, column, ne_eqb per 2 z)
-
--- a record without entries has six words at most: each has a column of its own
-pub column_flat : (j : ℕ) → j < 6 → j ≡ column 0 j
-unfolding column
-column_flat j l = ⊎_elim (λ h. rw (lt-ltb j 3 h, column)) (λ h. let z : j ≡ 3 + (j - 3) % 3 = omega (arith, h, l) in z ∙ column_three 0 j h (λ e. omega (arith, e))) (cases_lt j 3)
+  column_three z = rw (le-ltb j 3 l, column, ne_eqb per 0 (λ u. omega (arith, z, u)), ne_eqb per 2 (λ u. omega (arith, z, u)))
 
 -- ---- words by kind
 module _ (k n : ℕ) where
+  -- a record without entries
+  pub flat : 0 ≡ entry_words k → role_of (digit_at roles (k * 6 + (3 + n))) ≡ role_of (role k (3 + n))
+  unfolding role
+  flat h = let l : 3 ≤ 3 + n = omega arith in ap (λ (c : ℕ). role_of (digit_at roles (k * 6 + c))) (column_flat (entry_words k) (3 + n) l (sym h))
+
   two : entry_words k ≡ 2 → role_of (digit_at roles (k * 6 + (3 + n % 2))) ≡ role_of (role k (3 + n))
   unfolding role
   two h =
@@ -60,7 +64,7 @@ module _ (k n : ℕ) where
       let y : n ≡ 3 + n - 3 = omega arith in
       ap (λ (c : ℕ). role_of (digit_at roles (k * 6 + c))) (ap (λ (u : ℕ). 3 + u % 2) y ∙ column_two (entry_words k) (3 + n) l h)
 
-  three : (entry_words k ≡ 2 → ⊥) → role_of (digit_at roles (k * 6 + (3 + n % 3))) ≡ role_of (role k (3 + n))
+  three : entry_words k ≡ 3 → role_of (digit_at roles (k * 6 + (3 + n % 3))) ≡ role_of (role k (3 + n))
   unfolding role
   three h =
       let l : 3 ≤ 3 + n = omega arith in
@@ -72,28 +76,29 @@ module _ (y c k n : ℕ) (e : k ≡ y) where
   pub two_of : entry_words y ≡ 2 → n % 2 ≡ c → role_of (digit_at roles (y * 6 + (3 + c))) ≡ role_of (role k (3 + n))
   two_of h g = (λ i. role_of (digit_at roles (sym e i * 6 + (3 + sym g i)))) ∙ two k n (ap entry_words e ∙ h)
 
-  pub three_of : (entry_words y ≡ 2 → ⊥) → n % 3 ≡ c → role_of (digit_at roles (y * 6 + (3 + c))) ≡ role_of (role k (3 + n))
-  three_of h g = (λ i. role_of (digit_at roles (sym e i * 6 + (3 + sym g i)))) ∙ three k n (λ z. h (sym (ap entry_words e) ∙ z))
-
-pub not_two : ◌≡◌ {A = ℕ} 3 2 → ⊥
-not_two e = omega (arith, e)
-
-pub none_two : ◌≡◌ {A = ℕ} 0 2 → ⊥
-none_two e = omega (arith, e)
+  pub three_of : entry_words y ≡ 3 → n % 3 ≡ c → role_of (digit_at roles (y * 6 + (3 + c))) ≡ role_of (role k (3 + n))
+  three_of h g = (λ i. role_of (digit_at roles (sym e i * 6 + (3 + sym g i)))) ∙ three k n (ap entry_words e ∙ h)
 
 -- two words of three that are the same
-pub first_two : (y k n : ℕ) (r : Role) → k ≡ y → (entry_words y ≡ 2 → ⊥) → (n % 3 ≡ 2 → ⊥) → r ≡ role_of (digit_at roles (y * 6 + 3)) → r ≡ role_of (digit_at roles (y * 6 + 4)) → r ≡ role_of (role k (3 + n))
-first_two y k n r e h g a b =
-    ⊎_elim (λ l. let c : n % 3 ≡ 0 = omega (arith, l) in a ∙ three_of y 0 k n e h c) (λ l. let c : n % 3 ≡ 1 = omega (arith, l, g) in b ∙ three_of y 1 k n e h c) (cases_lt (n % 3) 1)
-
-pub last_two : (y k n : ℕ) (r : Role) → k ≡ y → (entry_words y ≡ 2 → ⊥) → (n % 3 ≡ 0 → ⊥) → r ≡ role_of (digit_at roles (y * 6 + 4)) → r ≡ role_of (digit_at roles (y * 6 + 5)) → r ≡ role_of (role k (3 + n))
+pub last_two : (y k n : ℕ) (r : Role) → k ≡ y → entry_words y ≡ 3 → (n % 3 ≡ 0 → ⊥) → r ≡ role_of (digit_at roles (y * 6 + 4)) → r ≡ role_of (digit_at roles (y * 6 + 5)) → r ≡ role_of (role k (3 + n))
 last_two y k n r e h g a b =
     ⊎_elim (λ l. let c : n % 3 ≡ 1 = omega (arith, l, g) in a ∙ three_of y 1 k n e h c) (λ l. let c : n % 3 ≡ 2 = omega (arith, l) in b ∙ three_of y 2 k n e h c) (cases_lt (n % 3) 2)
 
--- a record without entries
-flat : (y n : ℕ) → (entry_words y ≡ 2 → ⊥) → Plain ≡ role_of (digit_at roles (y * 6 + 3)) → Plain ≡ role_of (digit_at roles (y * 6 + 4)) → Plain ≡ role_of (digit_at roles (y * 6 + 5)) → Plain ≡ role_of (role y (3 + n))
-flat y n h a b d =
-    ⊎_elim (λ l. first_two y y n Plain refl h (λ c. omega (arith, l, c)) a b) (λ l. let c : n % 3 ≡ 2 = omega (arith, l) in d ∙ three_of y 2 y n refl h c) (cases_lt (n % 3) 2)
+plain : (d : ℕ) → (d ≡ 1 → ⊥) → (d ≡ 2 → ⊥) → Plain ≡ role_of d
+unfolding role_of
+plain zero a b = refl
+plain (suc zero) a b = absurd (a refl)
+plain (suc (suc zero)) a b = absurd (b refl)
+plain (suc (suc (suc d))) a b = refl
+
+-- what a digit of a row says, read as a letter
+module _ (l : List ℕ) (i v : ℕ) (k : v ≡ get_or l i 48) where
+  pub letter : (d : ℕ) → v ≡ d → role_of (d - 48) ≡ role_of (digit_at l i)
+  unfolding digit_at
+  letter d z = ap (λ (u : ℕ). role_of (u - 48)) (sym z ∙ k)
+
+  pub letter_plain : (v ≡ 49 → ⊥) → (v ≡ 50 → ⊥) → Plain ≡ role_of (digit_at l i)
+  letter_plain a b = plain (v - 48) (λ e. a (omega (arith, e))) (λ e. b (omega (arith, e))) ∙ letter v refl
 
 -- a number that is no kind
 past : (l : List ℕ) (i : ℕ) → length l ≤ i → digit_at l i ≡ 0
@@ -162,19 +167,6 @@ type_rest =
     (λ a b c d e f g h i j. absurd (h refl)) (λ a b c d e f g h i j. refl) (λ a b c d e f g h i j. refl)
     (λ a b c d e f g h i j. absurd (i refl)) (λ a b c d e f g h i j. absurd (j refl)) (λ a b c d e f g h i j. refl)
     (λ k l a b c d e f g h i j. role_past k 2 l)
-
-pub plain_rest : (n k : ℕ) → (k ≡ 4 → ⊥) → (k ≡ 5 → ⊥) → (k ≡ 13 → ⊥) → (k ≡ 6 → ⊥) → (k ≡ 19 → ⊥) → (k ≡ 3 → ⊥) → (k ≡ 15 → ⊥) → Plain ≡ role_of (role k (3 + n))
-unfolding entry_words digit_at roles role_of
-plain_rest n =
-    by_kind
-    (λ k. (k ≡ 4 → ⊥) → (k ≡ 5 → ⊥) → (k ≡ 13 → ⊥) → (k ≡ 6 → ⊥) → (k ≡ 19 → ⊥) → (k ≡ 3 → ⊥) → (k ≡ 15 → ⊥) → Plain ≡ role_of (role k (3 + n)))
-    (λ a b c d e f g. flat 0 n none_two refl refl refl) (λ a b c d e f g. flat 1 n none_two refl refl refl) (λ a b c d e f g. flat 2 n none_two refl refl refl)
-    (λ a b c d e f g. absurd (f refl)) (λ a b c d e f g. absurd (a refl)) (λ a b c d e f g. absurd (b refl)) (λ a b c d e f g. absurd (d refl))
-    (λ a b c d e f g. flat 7 n none_two refl refl refl) (λ a b c d e f g. flat 8 n none_two refl refl refl) (λ a b c d e f g. flat 9 n none_two refl refl refl)
-    (λ a b c d e f g. flat 10 n none_two refl refl refl) (λ a b c d e f g. flat 11 n none_two refl refl refl) (λ a b c d e f g. flat 12 n none_two refl refl refl)
-    (λ a b c d e f g. absurd (c refl)) (λ a b c d e f g. flat 14 n none_two refl refl refl) (λ a b c d e f g. absurd (g refl))
-    (λ a b c d e f g. flat 16 n none_two refl refl refl) (λ a b c d e f g. flat 17 n none_two refl refl refl) (λ a b c d e f g. flat 18 n none_two refl refl refl)
-    (λ a b c d e f g. absurd (e refl)) (λ k l a b c d e f g. role_past k (3 + n) l)
 
 -- a word is a name where its digit is 1, and an id where it is 2
 digit_name : (d : ℕ) → role_of d ≡ Name → d ≡ 1

@@ -22,9 +22,13 @@ unfoldable pub roles : List ℕ
 roles =
     ascii "000000100000102000100220100120100120100100100000102000102000102000102000102000102120102000100200100000102000102000100100"
 
--- entries, of two or three words, repeat from word 3 on (a record without entries has six words at most: there this is j)
+-- entries, of two or three words, repeat from word 3 on
 unfoldable pub column : ℕ → ℕ → ℕ
-column per j = elim (ltb j 3) [ true ↦ j | false ↦ elim (eqb per 2) [ true ↦ 3 + (j - 3) % 2 | false ↦ 3 + (j - 3) % 3 ] ]
+column per j =
+    elim (ltb j 3) [
+      | true ↦ j
+      | false ↦ elim (eqb per 0) [ true ↦ j | false ↦ elim (eqb per 2) [ true ↦ 3 + (j - 3) % 2 | false ↦ 3 + (j - 3) % 3 ] ]
+    ]
 
 -- what word j of a record is
 unfoldable pub role : ℕ → ℕ → ℕ

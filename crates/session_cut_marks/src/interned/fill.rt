@@ -59,8 +59,8 @@ impl Filler<'_> {
         slot_of(&from.kept.index.table, self.table, off)
     }
 
-    // The name that a word mentions: entered where its slot is free. (By index: with get, peek or store on a field that is a reference the
-    // proof of what the field has afterwards did not close.)
+    // The name that a word mentions: entered where its slot is free. (By index: tried with get_mut, and with peek and store. After a call
+    // that takes a field which is a reference no fact says what the field holds, and the proof did not close.)
     fn settle(&mut self, from: &Short, w: Word, off: u32)
         requires { self.old.len ≤ 16777216 }
         ensures filled { filled_by self.new

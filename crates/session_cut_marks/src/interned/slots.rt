@@ -1,8 +1,9 @@
 // Where a name stands in the table, and what the table has for it.
-ghost use Rattle.std.specs.Prelude.{◌≡◌, eqb};
+ghost use Rattle.std.specs.Prelude.{◌≡◌, eqb, option_map};
 ghost use Rattle.spec_type_table.specs.Names.{str_at};
 ghost use Rattle.btf_open_names.specs.name_classes.Table.{hash_from};
-ghost use Rattle.session_cut_marks.specs.interned.Slots.{slot_word, slot_words, stops, slot_of, found, slot_place};
+ghost use Rattle.session_cut_marks.specs.interned.Slots.{slot_word, slot_words, stops, slot_of, found};
+ghost use Rattle.session_cut_marks.specs.tags.Tags.{some_number};
 
 use crate::interned::SLOTS;
 use crate::mentioned::same_name;
@@ -59,13 +60,13 @@ pub(crate) fn slot_of(b: &Table, table: &[Slot], off: u32) -> u32
         .unwrap_or(SLOTS)
 }
 
-// The place of a name in the strings, where the table has the name.
-pub fn find(b: &Table, table: &[Slot], off: u32) -> Option<u32>
-    ensures { result ≡ slot_place (found b.now.head b.now.section.now (slot_words table.now) off) }
+// What the table has for a name, where it has the name.
+pub fn find(b: &Table, table: &[Slot], off: u32) -> Option<Slot>
+    ensures { option_map slot_word result ≡ some_number (found b.now.head b.now.section.now (slot_words table.now) off) }
 {
     let slot = peek(table, slot_of(b, table, off) as usize, Slot::FREE);
     if slot.is_free() {
         return None;
     }
-    Some(slot.place)
+    Some(slot)
 }

@@ -1,22 +1,22 @@
 -- Laws for the code that reads qualifiers and bases. Assumes nothing.
-use Rattle.std.specs.Prelude.{Option, Some, None}
-use Rattle.std.specs.Option.{is_some, option_eq}
+use Rattle.std.specs.Prelude.{Option, Some, None, MatchOption}
+use Rattle.std.specs.Option.{option_eq}
 use Rattle.std.specs.List.{list_any}
 use Prim.Native.Nat.{ℕ, zero, suc, ◌+◌, ◌≤◌, ◌<◌}
-use mathlib.Core.Path.{◌≡◌, refl, ap, sym, ◌∙◌}
+use mathlib.Core.Path.{◌≡◌, refl, ap, sym, ◌∙◌, subst}
 use mathlib.Core.Bool.{Bool, true, false, not, ◌&&◌, ◌||◌, or-true, false≢true}
 use mathlib.Core.List.{List, [], ◌∷◌, ◌++◌, append-nil, append_assoc}
 use borrow.Author.Tests.{not-true, not-false}
 use lib.ListN.{length, set}
 use native.Mathlib.Omega.{arith}
 use native.Mathlib.Numerals.{add-one}
-use Rattle.std.proofs.Math.Bool.{and-true, and-false, not-not}
+use Rattle.std.proofs.Math.Bool.{and-false}
 use Rattle.spec_c_dumper.specs.rules.Types.{Qualifier, volatile, const, restrict}
 use Rattle.session_declaration_reader.specs.tokens.Tokens.{Kind, tag_word, void_word, other_word, Token, qual, word, number, mark, rest}
 use Rattle.session_declaration_reader.specs.bases.Bases.{Spelt, spelt, void_before, is_qualifier_among, distinct, begins, begins_word, bracketed, qual_run, after_quals, ends_name, word_run, after_words, is_tag, no_tags, single, is_base, words_of, same_qualifier}
 use Rattle.session_declaration_reader.specs.tokens.Looking.{Span, tokens_at, kind_of_qualifier, next_kind, is_word_kind, is_mark_kind, span_of, Looked}
 use Rattle.session_declaration_reader.specs.bases.Items.{first_from, last_to}
-use Rattle.session_declaration_reader.specs.bases.Looking.{qualifier, quals_in, QualsOf, QualsAt, is_base_word, BaseWord, AfterWords, begins_base, BaseAt}
+use Rattle.session_declaration_reader.specs.bases.Looking.{qualifier, quals_in, QualsOf, QualsAt, is_base_word, behind_void, AfterWords, last_or, Ended, Untagged, BaseEnds, begins_base, BaseAt}
 use Rattle.session_declaration_reader.specs.declared.tokens.Tok.{Tok}
 use Rattle.session_declaration_reader.specs.declared.bases.Quals.{Quals}
 use Rattle.session_declaration_reader.specs.declared.token_kind.Qualifier as declared
@@ -173,18 +173,7 @@ over n (word k w ∷ ts) e =
     let f : (n && ends_name ts) ≡ true = not-false (n && ends_name ts) e in
     record { run_is = rw (f, word_run); after_is = rw (f, after_words) }
 
-pub word_gone : (s : List ℕ) (at : ℕ) (n : Bool) (r : Option Tok) → BaseWord s at n r → (b : Bool) → is_some r ≡ not b → b ≡ not (is_base_word n (tokens_at s at))
-word_gone s at n r e b h = sym (not-not b) ∙ ap not (sym h) ∙ go r e
-  where
-    go : (r : Option Tok) → BaseWord s at n r → not (is_some r) ≡ not (is_base_word n (tokens_at s at))
-    go (Some t) e = ap not e.1
-    go None e = ap not e
-
 -- where the last word ends
-abbrev pub last_or : ℕ → List Span → ℕ
-last_or d [] = d
-last_or d (w ∷ ws) = last_or w.to ws
-
 last_is : (w : Span) (ws : List Span) (d : ℕ) → last_or d (w ∷ ws) ≡ last_to (w ∷ ws)
 last_is w [] d = refl
 last_is w (v ∷ ws) d = last_is v ws w.to
@@ -199,13 +188,20 @@ pub after_start : (s : List ℕ) (at : ℕ) (n : Bool) → AfterInv s at n at
 unfolding AfterInv
 after_start s at n = (refl, refl)
 
--- whether none of the words that are passed is a tag's
-pub TagsInv : List ℕ → ℕ → Bool → ℕ → Bool → Type 0
-TagsInv s at n i f = no_tags (word_run n (tokens_at s at)) ≡ (f && no_tags (word_run n (tokens_at s i)))
+-- whether the words that are passed leave it open that none is a tag's
+pub TagsInv : List ℕ → ℕ → Bool → ℕ → Type 0
+TagsInv s at n i = no_tags (word_run n (tokens_at s at)) ≡ no_tags (word_run n (tokens_at s i))
 
-pub tags_start : (s : List ℕ) (at : ℕ) (n : Bool) → TagsInv s at n at true
+pub tags_start : (s : List ℕ) (at : ℕ) (n : Bool) → TagsInv s at n at
 unfolding TagsInv
 tags_start s at n = refl
+
+words_end : (s : List ℕ) (at : ℕ) (n : Bool) (k : ℕ) → Ended s at n k → AfterWords s at n k
+unfolding words_of
+words_end s at n k e = record { rest_is = e.0; to_is = λ b. e.1 ∙ lasts (word_run n (tokens_at s at)) (step n (tokens_at s at) b).run_is }
+  where
+    lasts : {k : Kind} {w : Span} {ss : List (Spelt Span)} → (rs : List (Spelt Span)) → rs ≡ spelt k w ∷ ss → last_or at (words_of rs) ≡ last_to (words_of rs)
+    lasts {k} {w} {ss} rs q = ap (λ x. last_or at (words_of x)) q ∙ last_is w (words_of ss) at ∙ sym (ap (λ x. last_to (words_of x)) q)
 
 module _ (s : List ℕ) (n : Bool) (i : ℕ) (r : Bool) (e : r ≡ is_base_word n (tokens_at s i)) where
   module _ (h : r ≡ true) (t : Tok) (l : Looked s i t) where
@@ -236,33 +232,39 @@ module _ (s : List ℕ) (n : Bool) (i : ℕ) (r : Bool) (e : r ≡ is_base_word 
     after_turn at inv =
         (ap (after_words n) l.rest_is ∙ sym st.after_is ∙ inv.0, sym (ap (last_or i) words_are) ∙ inv.1)
 
-    pub tags_turn : (f : Bool) (at : ℕ) → (t.kind ≡ Tag → ⊥) → TagsInv s at n i f → TagsInv s at n t.end f
+    pub tags_turn : (at : ℕ) → (t.kind ≡ Tag → ⊥) → TagsInv s at n i → TagsInv s at n t.end
     unfolding TagsInv no_tags
-    tags_turn f at k inv =
+    tags_turn at k inv =
         let g : is_tag (spelt st.kind st.at) ≡ false = st.tag_is ∙ ap is_tag_kind (sym l.kind_is) ∙ tag_not t.kind k in
         inv
-        ∙ ap
-        (λ (b : Bool). f && b)
-        (ap no_tags st.run_is
+        ∙ ap no_tags st.run_is
         ∙ ap (λ (b : Bool). not b && no_tags (word_run n (rest (tokens_at s i)))) g
-        ∙ ap (λ (y : Ts). no_tags (word_run n y)) (sym l.rest_is))
+        ∙ ap (λ (y : Ts). no_tags (word_run n y)) (sym l.rest_is)
 
-    pub tags_found : (f : Bool) (at : ℕ) → t.kind ≡ Tag → TagsInv s at n i f → TagsInv s at n t.end false
+    pub tags_found : (at : ℕ) → t.kind ≡ Tag → TagsInv s at n i → Untagged s at n None
     unfolding TagsInv no_tags
-    tags_found f at k inv =
+    tags_found at k inv =
         let g : is_tag (spelt st.kind st.at) ≡ true = st.tag_is ∙ ap is_tag_kind (sym l.kind_is ∙ k) in
-        inv
-        ∙ ap (λ (b : Bool). f && b) (ap no_tags st.run_is ∙ ap (λ (b : Bool). not b && no_tags (word_run n (rest (tokens_at s i)))) g)
-        ∙ and-false f
+        sym (inv ∙ ap no_tags st.run_is ∙ ap (λ (b : Bool). not b && no_tags (word_run n (rest (tokens_at s i)))) g)
 
     -- words other than a tag's keyword
-    pub base_words : (t.kind ≡ Tag → ⊥) → (b : Bool) → b ≡ no_tags (word_run n (tokens_at s t.end)) → b ≡ is_base (word_run n (tokens_at s i))
-    unfolding is_base
-    base_words f b q =
-        let g : is_tag (spelt st.kind st.at) ≡ false = st.tag_is ∙ ap is_tag_kind (sym l.kind_is) ∙ tag_not t.kind f in
-        q
-        ∙ ap (λ (x : Ts). no_tags (word_run n x)) l.rest_is
-        ∙ sym (ap is_base st.run_is ∙ failed (is_tag (spelt st.kind st.at)) (single (word_run n (rest (tokens_at s i)))) (no_tags (word_run n (rest (tokens_at s i)))) g)
+    pub base_words : (t.kind ≡ Tag → ⊥) → (k : Option ℕ) → Untagged s t.end n k → BaseEnds s i n k
+    unfolding AfterInv is_base
+    base_words f k q = go k q
+      where
+        inv : AfterInv s i n t.end
+        inv = after_turn i (after_start s i n)
+
+        is_words : (b : Bool) → b ≡ no_tags (word_run n (tokens_at s t.end)) → b ≡ is_base (word_run n (tokens_at s i))
+        is_words b q =
+            let g : is_tag (spelt st.kind st.at) ≡ false = st.tag_is ∙ ap is_tag_kind (sym l.kind_is) ∙ tag_not t.kind f in
+            q
+            ∙ ap (λ (x : Ts). no_tags (word_run n x)) l.rest_is
+            ∙ sym (ap is_base st.run_is ∙ failed (is_tag (spelt st.kind st.at)) (single (word_run n (rest (tokens_at s i)))) (no_tags (word_run n (rest (tokens_at s i)))) g)
+
+        go : (k : Option ℕ) → Untagged s t.end n k → BaseEnds s i n k
+        go (Some k) q = (words_end s i n k (q.0.0 ∙ inv.0, q.0.1 ∙ inv.1), is_words true q.1)
+        go None q = is_words false q
 
     tag_single : t.kind ≡ Tag → is_base (word_run n (tokens_at s i)) ≡ single (word_run n (tokens_at s t.end))
     unfolding is_base
@@ -272,29 +274,24 @@ module _ (s : List ℕ) (n : Bool) (i : ℕ) (r : Bool) (e : r ≡ is_base_word 
         ∙ passed (is_tag (spelt st.kind st.at)) (single (word_run n (rest (tokens_at s i)))) (no_tags (word_run n (rest (tokens_at s i)))) g
         ∙ ap (λ (x : Ts). single (word_run n x)) (sym l.rest_is)
 
-    pub tag_alone : t.kind ≡ Tag → (b : Bool) → b ≡ is_base_word n (tokens_at s t.end) → b ≡ false → false ≡ is_base (word_run n (tokens_at s i))
+    pub tag_alone : t.kind ≡ Tag → false ≡ is_base_word n (tokens_at s t.end) → BaseEnds s i n None
     unfolding single
-    tag_alone f b q z = sym (tag_single f ∙ ap single (over n (tokens_at s t.end) (sym q ∙ z)).run_is)
+    tag_alone f q = sym (tag_single f ∙ ap single (over n (tokens_at s t.end) (sym q)).run_is)
 
-    pub tag_and_tag : t.kind ≡ Tag → (b : Bool) → b ≡ is_base_word n (tokens_at s t.end) → b ≡ true → (u : Tok) → Looked s t.end u
-        → (c : Bool) → c ≡ is_base_word n (tokens_at s u.end) → not c ≡ is_base (word_run n (tokens_at s i))
-    unfolding single
-    tag_and_tag f b q z u lu c k = go c k
-      where
-        su : Step n (tokens_at s t.end)
-        su = step n (tokens_at s t.end) (sym q ∙ z)
+    module _ (f : t.kind ≡ Tag) (q : true ≡ is_base_word n (tokens_at s t.end)) (u : Tok) (lu : Looked s t.end u) where
+      su : Step n (tokens_at s t.end)
+      su = step n (tokens_at s t.end) (sym q)
 
-        runs : word_run n (tokens_at s t.end) ≡ spelt su.kind su.at ∷ word_run n (tokens_at s u.end)
-        runs = su.run_is ∙ ap (λ (x : Ts). spelt su.kind su.at ∷ word_run n x) (sym lu.rest_is)
+      tag_behind : is_base (word_run n (tokens_at s i)) ≡ single (spelt su.kind su.at ∷ word_run n (tokens_at s u.end))
+      tag_behind = tag_single f ∙ ap single (su.run_is ∙ ap (λ (x : Ts). spelt su.kind su.at ∷ word_run n x) (sym lu.rest_is))
 
-        go : (c : Bool) → c ≡ is_base_word n (tokens_at s u.end) → not c ≡ is_base (word_run n (tokens_at s i))
-        go true k =
-            sym
-            (tag_single f
-            ∙ ap single runs
-            ∙ ap (λ (ss : List (Spelt Span)). single (spelt su.kind su.at ∷ ss)) (step n (tokens_at s u.end) (sym k)).run_is)
-        go false k =
-            sym (tag_single f ∙ ap single runs ∙ ap (λ (ss : List (Spelt Span)). single (spelt su.kind su.at ∷ ss)) (over n (tokens_at s u.end) (sym k)).run_is)
+      pub tag_and_tags : true ≡ is_base_word n (tokens_at s u.end) → BaseEnds s i n None
+      unfolding single
+      tag_and_tags k = sym (tag_behind ∙ ap (λ ss. single (spelt su.kind su.at ∷ ss)) (step n (tokens_at s u.end) (sym k)).run_is)
+
+      tag_one : false ≡ is_base_word n (tokens_at s u.end) → true ≡ is_base (word_run n (tokens_at s i))
+      unfolding single
+      tag_one k = sym (tag_behind ∙ ap (λ ss. single (spelt su.kind su.at ∷ ss)) (over n (tokens_at s u.end) (sym k)).run_is)
 
     -- the span of a base's words
     pub first_is : t.start ≡ first_from (words_at s n i)
@@ -304,50 +301,64 @@ module _ (s : List ℕ) (n : Bool) (i : ℕ) (r : Bool) (e : r ≡ is_base_word 
     ov : Over n (tokens_at s i)
     ov = over n (tokens_at s i) (sym e ∙ h)
 
-    pub after_ends : (at : ℕ) → AfterInv s at n i → AfterWords s at n i
+    pub after_ends : (at : ℕ) → AfterInv s at n i → Ended s at n i
     unfolding AfterInv words_of
-    after_ends at inv =
-        record {
-          rest_is = sym ov.after_is ∙ inv.0;
-          to_is = λ b. sym (ap (λ ss. last_or i (words_of ss)) ov.run_is) ∙ inv.1 ∙ lasts (word_run n (tokens_at s at)) (step n (tokens_at s at) b).run_is;
-        }
-      where
-        lasts : {k : Kind} {w : Span} {ss : List (Spelt Span)} → (rs : List (Spelt Span)) → rs ≡ spelt k w ∷ ss → last_or at (words_of rs) ≡ last_to (words_of rs)
-        lasts {k} {w} {ss} rs q = ap (λ x. last_or at (words_of x)) q ∙ last_is w (words_of ss) at ∙ sym (ap (λ x. last_to (words_of x)) q)
+    after_ends at inv = (sym ov.after_is ∙ inv.0, sym (ap (λ ss. last_or i (words_of ss)) ov.run_is) ∙ inv.1)
 
-    pub tags_end : (f : Bool) (at : ℕ) → TagsInv s at n i f → f ≡ no_tags (word_run n (tokens_at s at))
+    pub tags_end : (at : ℕ) → TagsInv s at n i → true ≡ no_tags (word_run n (tokens_at s at))
     unfolding TagsInv no_tags
-    tags_end f at inv = sym (inv ∙ ap (λ (b : Bool). f && b) (ap no_tags ov.run_is) ∙ and-true f)
+    tags_end at inv = sym (inv ∙ ap no_tags ov.run_is)
 
     pub base_over : false ≡ is_base (word_run n (tokens_at s i))
     unfolding is_base
     base_over = sym (ap is_base ov.run_is)
 
--- `void`
-module _ (m : ℕ) where
-  pub void_not : (ts : Ts) (k : TokenKind) → k ≡ next_kind ts → (k ≡ Void → ⊥) → false ≡ void_before m ts
-  unfolding void_before next_kind
-  void_not [] k e n = refl
-  void_not (qual q ∷ ts) k e n = refl
-  void_not (word tag_word w ∷ ts) k e n = refl
-  void_not (word void_word w ∷ ts) k e n = absurd (n e)
-  void_not (word other_word w ∷ ts) k e n = refl
-  void_not (number x ∷ ts) k e n = refl
-  void_not (mark b ∷ ts) k e n = refl
+-- a tag's keyword and a tag
+pub tag_end : (s : List ℕ) (n : Bool) (i : ℕ) → true ≡ is_base_word n (tokens_at s i) → (t : Tok) → Looked s i t → t.kind ≡ Tag
+    → true ≡ is_base_word n (tokens_at s t.end) → (u : Tok) → Looked s t.end u → false ≡ is_base_word n (tokens_at s u.end) → BaseEnds s i n (Some u.end)
+tag_end s n i e t l f q u lu k =
+    let inv : AfterInv s i n u.end = after_turn s n t.end true q refl u lu i (after_turn s n i true e refl t l i (after_start s i n)) in
+    (words_end s i n u.end (after_ends s n u.end false k refl i inv), tag_one s n i true e refl t l f q u lu k)
 
-  pub void_next : (ts : Ts) (k : TokenKind) → k ≡ next_kind ts → k ≡ Void → (us : Ts) → us ≡ rest ts → (g : TokenKind) → g ≡ next_kind us → is_mark_kind m g ≡ void_before m ts
-  unfolding void_before next_kind rest
-  void_next ts k e v us u g q =
-      ap (is_mark_kind m) (q ∙ ap next_kind u) ∙ sym (begins_kind m (rest ts)) ∙ go ts (ap is_void_kind (sym e ∙ v))
-    where
-      go : (ts : Ts) → is_void_kind (next_kind ts) ≡ true → begins m (rest ts) ≡ void_before m ts
-      go [] h = absurd (false≢true h)
-      go (qual q ∷ ts) h = absurd (false≢true h)
-      go (word tag_word w ∷ ts) h = absurd (false≢true h)
-      go (word void_word w ∷ ts) h = refl
-      go (word other_word w ∷ ts) h = absurd (false≢true h)
-      go (number n ∷ ts) h = absurd (false≢true h)
-      go (mark b ∷ ts) h = absurd (false≢true h)
+-- `void`
+pub void_not : (ts : Ts) (k : TokenKind) → k ≡ next_kind ts → (k ≡ Void → ⊥) → None ≡ behind_void ts
+unfolding behind_void next_kind
+void_not [] k e n = refl
+void_not (qual q ∷ ts) k e n = refl
+void_not (word tag_word w ∷ ts) k e n = refl
+void_not (word void_word w ∷ ts) k e n = absurd (n e)
+void_not (word other_word w ∷ ts) k e n = refl
+void_not (number x ∷ ts) k e n = refl
+void_not (mark b ∷ ts) k e n = refl
+
+pub void_next : (ts : Ts) (k : TokenKind) → k ≡ next_kind ts → k ≡ Void → (us : Ts) → us ≡ rest ts → (g : TokenKind) → g ≡ next_kind us
+    → Some g ≡ behind_void ts
+unfolding behind_void next_kind rest
+void_next ts k e v us u g q = ap Some (q ∙ ap next_kind u) ∙ go ts (ap is_void_kind (sym e ∙ v))
+  where
+    go : (ts : Ts) → is_void_kind (next_kind ts) ≡ true → Some (next_kind (rest ts)) ≡ behind_void ts
+    go [] h = absurd (false≢true h)
+    go (qual q ∷ ts) h = absurd (false≢true h)
+    go (word tag_word w ∷ ts) h = absurd (false≢true h)
+    go (word void_word w ∷ ts) h = refl
+    go (word other_word w ∷ ts) h = absurd (false≢true h)
+    go (number n ∷ ts) h = absurd (false≢true h)
+    go (mark b ∷ ts) h = absurd (false≢true h)
+
+-- whether it is that mark; P is what the code says of it, where there is one
+pub void_mark : (m : ℕ) (r : Bool) (P : TokenKind → Type 0) → ((g : TokenKind) → P g → r ≡ is_mark_kind m g)
+    → (ts : Ts) (o : Option TokenKind) → o ≡ behind_void ts → MatchOption o (r ≡ false) P → r ≡ void_before m ts
+unfolding behind_void void_before
+void_mark m r P f ts o e h = go ts (subst (λ x. MatchOption x (r ≡ false) P) e h)
+  where
+    go : (ts : Ts) → MatchOption (behind_void ts) (r ≡ false) P → r ≡ void_before m ts
+    go [] h = h
+    go (qual q ∷ ts) h = h
+    go (word tag_word w ∷ ts) h = h
+    go (word void_word w ∷ ts) h = f (next_kind ts) h ∙ sym (begins_kind m ts)
+    go (word other_word w ∷ ts) h = h
+    go (number n ∷ ts) h = h
+    go (mark b ∷ ts) h = h
 
 -- qualifiers
 pub record QStep (a : declared.Qualifier) (ts : Ts) : Type 0 where
@@ -601,29 +612,29 @@ pub base_quals : (s : List ℕ) (at : ℕ) (n : Bool) → QualsAt s at None → 
 unfolding begins_base
 base_quals s at n e = rw e
 
-module _ (s : List ℕ) (at : ℕ) (n : Bool) (q : Quals) (a : QualsOf s at q) (r : Bool) (e : r ≡ is_base (word_run n (tokens_at s q.end))) where
-  here : is_base (word_run n (after_quals (tokens_at s at))) ≡ r
-  here = ap (λ (x : Ts). is_base (word_run n x)) (sym a.rest_is) ∙ sym e
+module _ (s : List ℕ) (at : ℕ) (n : Bool) (q : Quals) (a : QualsOf s at q) where
+  here : (r : Bool) → r ≡ is_base (word_run n (tokens_at s q.end)) → is_base (word_run n (after_quals (tokens_at s at))) ≡ r
+  here r e = ap (λ (x : Ts). is_base (word_run n x)) (sym a.rest_is) ∙ sym e
 
-  pub base_words_not : r ≡ false → BaseAt s at n None
+  pub base_words_not : BaseEnds s q.end n None → BaseAt s at n None
   unfolding begins_base
-  base_words_not f = rw (a.apart, here ∙ f)
+  base_words_not e = rw (a.apart, here false e)
 
-  pub base_good : r ≡ true → (t : Tok) → Looked s q.end t → (k : ℕ) → AfterWords s q.end n k → BaseAt s at n (Some (record { quals = q; start = t.start; end = k }))
+  pub base_good : (k : ℕ) → BaseEnds s q.end n (Some k) → (t : Tok) → Looked s q.end t → BaseAt s at n (Some (record { quals = q; start = t.start; end = k }))
   unfolding begins_base
-  base_good g t l k w =
+  base_good k w t l =
       let b : is_base_word n (tokens_at s q.end) ≡ true = begun (is_base_word n (tokens_at s q.end)) refl in
       record {
-        begun = rw (a.apart, here ∙ g);
+        begun = rw (a.apart, here true w.1);
         quals_are = a.list_is;
         from_is = first_is s n q.end true (sym b) refl t l ∙ ap (λ (x : Ts). first_from (words_of (word_run n x))) a.rest_is;
-        to_is = w.to_is b ∙ ap (λ (x : Ts). last_to (words_of (word_run n x))) a.rest_is;
-        rest_is = w.rest_is ∙ ap (after_words n) a.rest_is;
+        to_is = w.0.to_is b ∙ ap (λ (x : Ts). last_to (words_of (word_run n x))) a.rest_is;
+        rest_is = w.0.rest_is ∙ ap (after_words n) a.rest_is;
       }
     where
       begun : (z : Bool) → is_base_word n (tokens_at s q.end) ≡ z → is_base_word n (tokens_at s q.end) ≡ true
       begun true z = z
-      begun false z = absurd (false≢true (base_over s n q.end false (sym z) refl ∙ sym e ∙ g))
+      begun false z = absurd (false≢true (base_over s n q.end false (sym z) refl ∙ sym w.1))
 
 module _ (ts : Ts) (g : TokenKind) (e : g ≡ next_kind ts) where
   kind_begins : (m : ℕ) → begins m ts ≡ is_mark_kind m g

@@ -13,7 +13,7 @@ use Rattle.std.proofs.lemmas.Slice.{put_mid-paste}
 use lib.Dec.{ltb}
 use Rattle.spec_c_dumper.specs.rules.Types.{Qualifier}
 use Rattle.session_declaration_reader.specs.bases.Items.{Item, item, qual_code, qual_items, Placed, placed, put_item, one_more, placing}
-use Rattle.session_declaration_reader.specs.bases.Entries.{item_words}
+use Rattle.session_declaration_reader.specs.bases.Entries.{item_in, item_words}
 use Rattle.session_declaration_reader.specs.bases.Looking.{qualifier, qual_of, quals_in}
 use Rattle.session_declaration_reader.specs.tokens.Looking.{qualifier_code}
 use Rattle.session_declaration_reader.specs.declared.token_kind.Qualifier as declared
@@ -69,13 +69,31 @@ three t at m k x y s h e p =
     let s3 : set (paste t at l 2) (at + 2) y ≡ paste t at l 3 = paste-suc t at l 2 0 (omega arith) (omega arith) in
     put_mid-paste at m t s l 3 p (sym e) refl ∙ sym (rw (s1, s2) s3)
 
-pub item_stored : (t : List ℕ) (n : ℕ) (i : Item) → n < 512 → n * 3 + 2 < length t → (m : ℕ) (s u : List ℕ) → m ≡ 3 → s ≡ item_words i → u ≡ s
-    → placed (n + 1) (put_mid (n * 3) m t u) ≡ placing t n (i ∷ [])
+-- any three words are those of their entry
+words_are : (s : List ℕ) → length s ≡ 3 → s ≡ item_words (item_in s)
+words_are [] e = absurd (omega (arith, e))
+words_are (k ∷ []) e = absurd (omega (arith, e))
+words_are (k ∷ x ∷ []) e = absurd (omega (arith, e))
+words_are (k ∷ x ∷ y ∷ []) e = refl
+words_are (k ∷ x ∷ y ∷ z ∷ s) e = absurd (omega (arith, e))
+
+pub item_stored : (t : List ℕ) (n : ℕ) (s : List ℕ) → n < 512 → n * 3 + 2 < length t → length s ≡ 3 → (m : ℕ) (u : List ℕ) → m ≡ 3 → u ≡ s
+    → placed (n + 1) (put_mid (n * 3) m t u) ≡ placing t n (item_in s ∷ [])
 unfolding placing put_item
-item_stored t n (item k x y) h l m s u em es eu =
+item_stored t n s h l es m u em eu =
+    let k : ℕ = get_or s 0 0 in
+    let x : ℕ = get_or s 1 0 in
+    let y : ℕ = get_or s 2 0 in
     let e : put_item t n (item k x y) ≡ set (set (set t (n * 3) k) (n * 3 + 1) x) (n * 3 + 2) y =
     passed (ltb n 512) _ t (lt-ltb n 512 h) ∙ passed (ltb (n * 3 + 2) (length t)) (set (set (set t (n * 3) k) (n * 3 + 1) x) (n * 3 + 2) y) t (lt-ltb (n * 3 + 2) (length t) l) in
-    ap (placed (n + 1)) (three t (n * 3) m k x y u l em (eu ∙ es)) ∙ sym (λ j. placed (more_few n h j) (e j))
+    ap (placed (n + 1)) (three t (n * 3) m k x y u l em (eu ∙ words_are s es)) ∙ sym (λ j. placed (more_few n h j) (e j))
+
+-- the words of an entry are put as the entry
+pub entry_put : (t : List ℕ) (n : ℕ) (i : Item) (s : List ℕ) → s ≡ item_words i → (p : Placed) → p ≡ placing t n (item_in s ∷ []) → p ≡ placing t n (i ∷ [])
+entry_put t n i s e p f = f ∙ ap (λ (j : Item). placing t n (j ∷ [])) (ap item_in e ∙ is_same i)
+  where
+    is_same : (i : Item) → item_in (item_words i) ≡ i
+    is_same (item k x y) = refl
 
 -- qualifiers
 pub code_is : (q : declared.Qualifier) → qual_code (qualifier q) ≡ qualifier_code q

@@ -1,5 +1,5 @@
 -- The entries of a chain as three words.
-use Rattle.std.specs.Prelude.{ℕ, Bool, true, false, List, [], ◌∷◌}
+use Rattle.std.specs.Prelude.{ℕ, Bool, true, false, List, [], ◌∷◌, get_or}
 use Rattle.session_declaration_reader.specs.bases.Items.{Item, item, Placed, placed}
 use Rattle.session_declaration_reader.specs.tokens.Looking.{qualifier_code}
 use Rattle.session_declaration_reader.specs.declared.bases.items.Chain.{Chain}
@@ -27,6 +27,10 @@ item_of (FollowedBase start length) = item 6 start length
 -- an entry's three words
 abbrev pub item_words : Item → List ℕ
 item_words (item k x y) = k ∷ x ∷ y ∷ []
+
+-- the entry whose three words these are
+abbrev pub item_in : List ℕ → Item
+item_in w = item (get_or w 0 0) (get_or w 1 0) (get_or w 2 0)
 
 -- the entries of a chain that is being stored
 abbrev pub stored : Chain → Placed

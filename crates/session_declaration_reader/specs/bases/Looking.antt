@@ -3,11 +3,12 @@ use Rattle.std.specs.Prelude.{ℕ, Option, Some, None, ◌-◌, ◌≡◌, Bool,
 use Rattle.spec_c_dumper.specs.rules.Types.{Qualifier, volatile, const, restrict}
 use Rattle.session_declaration_reader.specs.declared.token_kind.Qualifier as declared
 use Rattle.session_declaration_reader.specs.declared.token_kind.Qualifier.TheVariants.{Const, Volatile, Restrict}
-use Rattle.session_declaration_reader.specs.tokens.Tokens.{Token, rest}
-use Rattle.session_declaration_reader.specs.tokens.Looking.{Span, tokens_at, Looked}
+use Rattle.session_declaration_reader.specs.tokens.Tokens.{tag_word, void_word, other_word, Token, qual, word, number, mark, rest}
+use Rattle.session_declaration_reader.specs.tokens.Looking.{Span, tokens_at, next_kind, Looked}
+use Rattle.session_declaration_reader.specs.declared.token_kind.TokenKind.{TokenKind}
 use Rattle.session_declaration_reader.specs.declared.tokens.Tok.{Tok}
 use Rattle.session_declaration_reader.specs.bases.Bases.{begins_word, ends_name, distinct, qual_run, after_quals, word_run, after_words}
-use Rattle.session_declaration_reader.specs.bases.Bases.{words_of, is_base}
+use Rattle.session_declaration_reader.specs.bases.Bases.{words_of, no_tags, is_base}
 use Rattle.session_declaration_reader.specs.bases.Items.{Item, item, qual_items, first_from, last_to}
 use Rattle.session_declaration_reader.specs.declared.bases.Quals.{Quals}
 use Rattle.session_declaration_reader.specs.declared.bases.Base.{Base}
@@ -49,10 +50,38 @@ abbrev pub BaseWord : List ℕ → ℕ → Bool → Option Tok → Type 0
 BaseWord s at n (Some t) = Looked s at t × (true ≡ is_base_word n (tokens_at s at))
 BaseWord s at n None = false ≡ is_base_word n (tokens_at s at)
 
+-- what stands behind a `void` that is next
+unfoldable pub behind_void : List (Token Span) → Option TokenKind
+behind_void [] = None
+behind_void (qual q ∷ ts) = None
+behind_void (word tag_word w ∷ ts) = None
+behind_void (word void_word w ∷ ts) = Some (next_kind ts)
+behind_void (word other_word w ∷ ts) = None
+behind_void (number n ∷ ts) = None
+behind_void (mark b ∷ ts) = None
+
 -- where the words of the base end
 pub record AfterWords (s : List ℕ) (at : ℕ) (n : Bool) (r : ℕ) : Type 0 where
   pub rest_is : tokens_at s r ≡ after_words n (tokens_at s at)
   pub to_is : is_base_word n (tokens_at s at) ≡ true → r ≡ last_to (words_of (word_run n (tokens_at s at)))
+
+-- where the last of the words ends; the place itself where there is none
+abbrev pub last_or : ℕ → List Span → ℕ
+last_or d [] = d
+last_or d (w ∷ ws) = last_or w.to ws
+
+abbrev pub Ended : List ℕ → ℕ → Bool → ℕ → Type 0
+Ended s at n r = (tokens_at s r ≡ after_words n (tokens_at s at)) × (r ≡ last_or at (words_of (word_run n (tokens_at s at))))
+
+-- the words of the base where none of them is struct, union or enum: where they end; none where one is
+abbrev pub Untagged : List ℕ → ℕ → Bool → Option ℕ → Type 0
+Untagged s at n (Some r) = Ended s at n r × (true ≡ no_tags (word_run n (tokens_at s at)))
+Untagged s at n None = false ≡ no_tags (word_run n (tokens_at s at))
+
+-- the words of a base that stands next: where they end; none where no base does
+abbrev pub BaseEnds : List ℕ → ℕ → Bool → Option ℕ → Type 0
+BaseEnds s at n (Some r) = AfterWords s at n r × (true ≡ is_base (word_run n (tokens_at s at)))
+BaseEnds s at n None = false ≡ is_base (word_run n (tokens_at s at))
 
 -- whether a base stands next, with its qualifiers
 unfoldable pub begins_base : List ℕ → ℕ → Bool → Bool

@@ -4,7 +4,7 @@ use Rattle.std.specs.Prelude.{List, [], ◌∷◌, true, false, eqb, length, get
 use Rattle.spec_c_dumper.specs.rules.Types as rules
 use Rattle.spec_c_dumper.specs.rules.Types.{volatile, const, restrict}
 use Rattle.session_declaration_reader.specs.tokens.Tokens.{tag_word, void_word, other_word, Token, qual, word, number, mark, rest}
-use Rattle.session_declaration_reader.specs.tokens.Tokens.{is_count, value_of, kind_of, tokens, word_token, run_token}
+use Rattle.session_declaration_reader.specs.tokens.Tokens.{is_count, value_of, tokens, word_token, run_token}
 use Rattle.session_declaration_reader.specs.declared.token_kind.Qualifier as declared
 use Rattle.session_declaration_reader.specs.declared.token_kind.Qualifier.TheVariants.{Const, Volatile, Restrict}
 use Rattle.session_declaration_reader.specs.declared.token_kind.TokenKind.{TokenKind}
@@ -95,9 +95,6 @@ unfoldable pub count_value : List ℕ → Option ℕ
 count_value run = elim (is_count run) [ true ↦ Some (value_of 0 run) | false ↦ None ]
 
 -- what a run is
-abbrev pub base_kind : List ℕ → TokenKind
-base_kind run = token_kind {W = ℕ} (word (kind_of run) 0)
-
 abbrev pub word_kind : List ℕ → TokenKind
 word_kind run = token_kind {W = ℕ} (word_token run 0)
 

@@ -1,7 +1,7 @@
 // Entries in lent words, three words each.
 ghost use Rattle.std.specs.Prelude.{◌≡◌, [], ◌∷◌, ◌-◌};
 ghost use Rattle.session_declaration_reader.specs.bases.Items.{item, qual_items, placing};
-ghost use Rattle.session_declaration_reader.specs.bases.Entries.{item_of, item_words, base_code, stored};
+ghost use Rattle.session_declaration_reader.specs.bases.Entries.{item_of, item_in, item_words, base_code, stored};
 ghost use Rattle.session_declaration_reader.specs.bases.Looking.{qual_of, quals_of, base_items};
 
 use crate::bases::{Base, Quals};
@@ -12,8 +12,8 @@ use base_bytes::limit;
 // looks at the count once. A refusal here would be one more exit behind each entry that the grammar stores.
 const TOO_MANY: u32 = limit::MOST_CALLS + 1;
 
-// A chain that is being stored: the words lent for it, and how many entries it has so far. (Each function that takes it ensures `same`: a
-// struct that holds a `&mut` owes that it is still the same slice.)
+// A chain that is being stored: the words that the C caller lent for it, so no Vec, and how many entries it has so far. (Each function
+// that takes it ensures `same`: a struct that holds a `&mut` owes that it is still the same slice.)
 #[derive(Drop)]
 pub struct Chain<'a> {
     pub words: &'a mut [u64],
@@ -61,9 +61,10 @@ fn base_entry(start: u64, length: u64, is_followed: bool) -> Entry
 }
 
 impl Chain<'_> {
-    // Stores the next entry, if it is one of the most and there is room. (No `get_mut`: std says nothing of what the slice ends as then.)
-    pub fn put_entry(&mut self, entry: Entry)
-        ensures stored { stored self.new ≡ placing self.old.words.now self.old.n (item_of entry ∷ []) }
+    // Stores the next entry by its three words, of any kind, if it is one of the most and there is room. (Tried with `get_mut`: the proof
+    // did not close, since std says nothing of what the slice ends as then, and of as_chunks_mut as little.)
+    pub fn put_words(&mut self, words: [u64; 3])
+        ensures stored { stored self.new ≡ placing self.old.words.now self.old.n (item_in words ∷ []) }
         ensures same { self.new.words.ghost_name ≡ self.old.words.ghost_name }
     {
         if limit::MOST_CALLS <= self.n {
@@ -75,7 +76,15 @@ impl Chain<'_> {
         if self.words.len() < i + 3 {
             return;
         }
-        self.words[i..i + 3].copy_from_slice(&<[u64; 3]>::from(entry));
+        self.words[i..i + 3].copy_from_slice(&words);
+    }
+
+    // Stores the next entry.
+    pub fn put_entry(&mut self, entry: Entry)
+        ensures stored { stored self.new ≡ placing self.old.words.now self.old.n (item_of entry ∷ []) }
+        ensures same { self.new.words.ghost_name ≡ self.old.words.ghost_name }
+    {
+        self.put_words(<[u64; 3]>::from(entry));
     }
 
     fn put_qual(&mut self, qualifier: Option<Qualifier>)

@@ -5,6 +5,7 @@ use mathlib.Core.Logic.{⊎_elim, inl, inr}
 use Rattle.std.proofs.lemmas.Bool.{cases_lt}
 use Rattle.spec_type_table.specs.declared.kind.Kind.TheVariants.{Struct, Union}
 use Rattle.spec_type_table.proofs.KindNames.{is, isnt}
+use Rattle.btf_open_causes.proofs.references.Accessors.{count_told}
 use Rattle.btf_open_causes.proofs.loops.TypeLoops.{deg_composite, deg_other}
 use Rattle.btf_open_causes.proofs.loops.degree.Goals as goal
 
@@ -16,4 +17,4 @@ pub returns-in_default : goal.returns-in_default
 returns-in_default c =
     let n4 : (c.args.e.word % 32) ≡ 4 → ⊥ = isnt _ _ c.kind.ensures Struct c.in_default.not-Struct in
     let n5 : (c.args.e.word % 32) ≡ 5 → ⊥ = isnt _ _ c.kind.ensures Union c.in_default.not-Union in
-    deg_other _ _ _ _ (⊎_elim (λ l. inl (omega arith)) (λ l. inr l) (cases_lt (c.args.e.word % 32) 6)) _ c.count_at.ensures
+    deg_other _ _ _ _ (⊎_elim (λ l. inl (omega arith)) (λ l. inr l) (cases_lt (c.args.e.word % 32) 6)) _ (count_told _ _ _ _ c.place.ensures _ (c.count_at.ensures _ c.kind.ensures))

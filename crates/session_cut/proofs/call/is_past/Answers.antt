@@ -1,19 +1,18 @@
-use native.Mathlib.Omega.{arith}
-use mathlib.Core.Path.{refl, ◌∙◌}
+use mathlib.Core.Path.{◌∙◌}
 use mathlib.Core.Bool.{not}
+use mathlib.Core.List.{List}
 use lib.Dec.{ltb}
-use lib.ListN.{length}
-use Prim.Native.Nat.{ℕ, ◌/◌}
+use Prim.Native.Nat.{ℕ}
 use borrow.Author.Tests.{tests}
 use Rattle.std.proofs.Common.{rules}
-use Rattle.std.proofs.lemmas.Iterator.{YieldsList-from_range}
+use Rattle.std.proofs.lemmas.Iterator.{YieldsList-from_slice}
 use Rattle.std.proofs.lemmas.Iterator.Search.{any_from_yields_List}
-use Rattle.spec_bytes.specs.words.Words.{get_word}
+use Rattle.std.specs.Int.{from_le_bytes, w32}
 use Rattle.session_cut.proofs.call.Laws as laws
 use Rattle.session_cut.proofs.call.is_past.Goals as goal
 
 pub returns : goal.returns
 returns c =
-    let n : ℕ = length c.args.given.now / 4 in
-    any_from_yields_List (λ (i : ℕ). not (ltb (get_word c.args.given.now i) c.args.count)) _ _ c.any.result c.any.ensures.ran (YieldsList-from_range 0 n n refl (omega arith)) (λ x b q k. search (rules, tests))
-    ∙ laws.past_is _ _
+    any_from_yields_List (λ (id : List ℕ). not (ltb (from_le_bytes w32 id) c.args.count)) _ _ c.any.result c.any.ensures.ran
+    (YieldsList-from_slice c.as_chunks.result.0.now c.iter.ensures.rest) (λ x b q k. search (rules, tests))
+    ∙ laws.past_is _ _ _ c.as_chunks.ensures.front c.as_chunks.ensures.front_len

@@ -20,13 +20,13 @@ returns-then-info-ne0 c =
     ]
 
 pub returns-in_err-n : goal.returns-in_err-n
-returns-in_err-n c = c.from_residual-in_err-n.ensures ∙ next_unknown _ _ _ _ _ c.requires (extra_unknown _ _ c.extra_of.ensures c.in_err-n.was)
+returns-in_err-n c = c.from_residual-in_err-n.ensures ∙ next_unknown _ _ _ _ _ c.requires (extra_unknown _ _ c.vlen_of.ensures _ (c.extra_of.ensures _ c.of.ensures) c.in_err-n.was)
 
 pub returns-then-left-n : goal.returns-then-left-n
 returns-then-left-n c =
     let p = c.in_ok-checked_sub.ensures in
     let q = c.in_ok-left.ensures in
-    let e = extra_long _ _ c.extra_of.ensures _ c.in_ok-n.was in
+    let e = extra_long _ _ c.vlen_of.ensures _ (c.extra_of.ensures _ c.of.ensures) _ c.in_ok-n.was in
     elim c.then-left-n.branch [
       | then-left-n-via-then-left-n w ↦ next_long _ _ _ _ _ c.requires _ e p.0 (omega arith) (omega arith)
       | then-left-n-via-else-left-n+then-not-are_record_names_inside w ↦ next_unnamed _ _ _ _ _ c.requires _ e _ w.are_record_names_inside.ensures w.if-not-are_record_names_inside.true
@@ -36,6 +36,6 @@ pub returns : goal.returns
 returns c =
     let p = c.in_ok-checked_sub.ensures in
     let q = c.in_ok-left.ensures in
-    next_is _ _ _ _ _ c.requires _ (extra_long _ _ c.extra_of.ensures _ c.in_ok-n.was) _ c.are_record_names_inside.ensures
-    p.0 (omega arith) c.if-info-ne0.false c.if-info-ne0-2.false (extra_known _ _ c.extra_of.ensures _ c.in_ok-n.was) (omega arith)
+    next_is _ _ _ _ _ c.requires _ (extra_long _ _ c.vlen_of.ensures _ (c.extra_of.ensures _ c.of.ensures) _ c.in_ok-n.was) _ c.are_record_names_inside.ensures
+    p.0 (omega arith) c.if-info-ne0.false c.if-info-ne0-2.false (extra_known _ _ c.vlen_of.ensures _ (c.extra_of.ensures _ c.of.ensures) _ c.in_ok-n.was) (omega arith)
     c.if-not-are_record_names_inside.false

@@ -1,7 +1,7 @@
 use Prim.Native.Nat.{◌+◌, ◌<◌}
 use mathlib.Core.Path.{ap, ◌∙◌}
+use Rattle.std.specs.Prelude.{unwrap_or}
 use Rattle.c_dumper_name_versions.specs.declared.names.versions.Name.{Name}
-use Rattle.c_dumper_name_versions.specs.names.Spelling.{number_of}
 use native.Mathlib.Omega.{arith}
 use Rattle.spec_type_table.specs.Numbers.{number_at}
 use Rattle.spec_type_table.specs.Cells.{class_p, count_p, count_raised}
@@ -20,4 +20,4 @@ returns c =
       c.get_number-n.ensures.0 ∙ ap (number_at c.args.b.types c.args.work.now) f.1,
       c.get_number-n.ensures.1 ∙ ap (count_raised (class_p c.args.b.types) (count_p c.args.b.types) c.args.work.now) f.1,
     ) in
-    (ap (λ (x : Name). x.off) c.held.ensures, ap (λ (x : Name). x.number) c.held.ensures ∙ ap number_of v.0, v.1)
+    (ap (λ (x : Name). x.off) c.held.ensures, ap (λ (x : Name). unwrap_or x.number 0) c.held.ensures ∙ v.0, v.1)

@@ -4,5 +4,5 @@ use Rattle.spec_bytes.specs.words.Words.{get_word}
 use mathlib.Core.Path.{◌≡◌}
 use Rattle.session_cut_marks.proofs.marks.Marking.push_given.Given as goal
 
-abbrev pub invariant-loop-k : goal.invariant-loop-k
-invariant-loop-k l = (heap_of l.self ≡ pushed_to (get_word l.given) (heap_of l.initial.self) l.k) × SameSlices l.initial.self l.self
+abbrev pub invariant-loop-id : goal.invariant-loop-id
+invariant-loop-id l = (heap_of l.self ≡ pushed_to (get_word l.given) (heap_of l.initial.self) l.id-index) × SameSlices l.initial.self l.self

@@ -1,9 +1,6 @@
-use mathlib.Core.Path.{◌∙◌}
+use Rattle.std.proofs.Common.{rules}
 use Rattle.session_declaration_reader.proofs.bases.BaseLaws as laws
 use Rattle.session_declaration_reader.proofs.tokens.Cursor.void_before.Goals as goal
 
-pub returns-in_default : goal.returns-in_default
-returns-in_default c = laws.void_not _ _ _ c.token-t.ensures.kind_is c.in_default.not-Void
-
 pub returns : goal.returns
-returns c = c.is_mark.ensures ∙ laws.void_next _ _ _ c.token-t.ensures.kind_is c.in-Void.is _ c.token-t.ensures.rest_is _ c.token-u.ensures.kind_is
+returns c = laws.void_mark c.args.mark _ _ (λ g q. search rules) _ _ c.behind_void-behind.ensures c.is_some_and.ensures

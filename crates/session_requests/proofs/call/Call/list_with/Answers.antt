@@ -4,6 +4,8 @@ use mathlib.Core.Path.{sym, ◌∙◌, ap}
 use Prim.Native.Nat.{ℕ}
 use lib.ListN.{length}
 use Rattle.spec_session.specs.session.Turns.{is_current, table_for}
+use Rattle.session_requests.specs.options.Counted.{Ended}
+use Rattle.session_requests.specs.options.Requests.{ended_of}
 use Rattle.session_requests.specs.options.Lists.{list_call_with}
 use Rattle.spec_session.specs.calls.Lists.{ids_in}
 use Rattle.session_requests.proofs.requests.Laws as laws
@@ -11,7 +13,8 @@ use Rattle.session_requests.proofs.requests.Lists as lists
 use Rattle.session_requests.proofs.call.Call.list_with.Goals as goal
 
 pub returns-then-ids-lt4 : goal.returns-then-ids-lt4
-returns-then-ids-lt4 c = lists.list_empty _ _ _ _ _ _ _ c.if-ids-lt4.true
+returns-then-ids-lt4 c = ap (λ (r : Ended). ended_of r c.args.work.now c.args.text.now c.args.list.now) c.none.ensures
+    ∙ lists.list_empty _ _ _ _ _ _ _ c.if-ids-lt4.true
 
 pub returns-then-not-is_current : goal.returns-then-not-is_current
 returns-then-not-is_current c = lists.list_11 _ _ _ _ _ _ _ _ c.is_current.ensures c.if-ids-lt4.false (ap not c.if-not-is_current.true) _ c.unchanged.ensures

@@ -1,5 +1,4 @@
 use Rattle.session_cut.proofs.writer.Strings.{base_start}
-use native.Mathlib.Omega.{arith}
 use Rattle.session_cut.proofs.writer.source.KeptType.length_to.Goals as goal
 
 pub loop-j-init : goal.loop-j-init

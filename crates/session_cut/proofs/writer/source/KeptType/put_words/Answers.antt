@@ -8,7 +8,6 @@ use Rattle.session_cut.specs.writer.OfType.{length_before}
 use Rattle.session_cut_marks.specs.kept.AtKept.{at_kept}
 use Rattle.spec_bytes.specs.text.Text.{whole}
 use Rattle.spec_bytes.specs.text.Placed.{put_text}
-use native.Mathlib.Omega.{arith}
 use mathlib.Core.Path.{◌≡◌, ◌∙◌, ap}
 use Prim.Native.Nat.{ℕ, ◌+◌}
 use Rattle.session_cut.proofs.writer.source.KeptType.put_words.Goals as goal

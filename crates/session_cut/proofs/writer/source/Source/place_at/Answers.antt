@@ -1,3 +1,4 @@
+use native.Mathlib.Omega.{arith}
 use mathlib.Core.Path.{refl, sym, ◌∙◌, ap, subst}
 use Prim.Native.Nat.{◌+◌, ◌≤◌}
 use Rattle.std.proofs.lemmas.Option.{MatchOption-at_none, MatchOption-at_some}
@@ -35,4 +36,4 @@ returns c =
     let is = MatchOption-at_some _ _ _ c.in_ok-t.was c.kept_type.ensures in
     let kept = subst (λ (source : Source). IsKept source.kept t.x t.e.word) is.0 t.kept in
     let length = c.length_to.ensures ∙ (λ i. at_kept base_of (is.0 i).kept t.x + at_kept new_sizes (is.0 i).kept t.x t.e.word c.in_ok-j.j) in
-    place_long _ _ _ _ _ _ _ (kept_at _ _ _ is.1 kept.kept) _ is.1 _ (kept.entry ∙ ap (entry_at _ _) is.1) _ c.words_in.ensures _ c.first_name.ensures _ c.in_ok-j.was (base_kept _ _ _ _ _ source.right _ _ _ c.requires source.based refl) _ length
+    place_long _ _ _ _ _ _ _ (kept_at _ _ _ is.1 kept.kept) _ is.1 _ (kept.entry ∙ ap (entry_at _ _) is.1) _ c.words_in.ensures _ c.first_name.ensures _ c.in_ok-j.was (base_kept _ _ _ _ _ source.right _ _ _ (omega (arith, kept.below, is.1)) source.based refl) _ length

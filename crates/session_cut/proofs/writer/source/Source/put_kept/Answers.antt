@@ -14,7 +14,7 @@ use Rattle.session_cut.proofs.writer.Parts.{kept_none, kept_is}
 use Rattle.session_cut.proofs.writer.source.Source.put_kept.Goals as goal
 
 pub returns-in_default : goal.returns-in_default
-returns-in_default c = kept_none _ _ _ _ _ _ _ refl _ _ (MatchOption-at_none _ _ c.in_default.is c.kept_type.ensures) _
+returns-in_default c = λ l. kept_none _ _ _ _ _ _ _ refl _ _ (MatchOption-at_none _ _ c.in_default.is c.kept_type.ensures l) _
 
 pub returns : goal.returns
 returns c =
@@ -22,4 +22,4 @@ returns c =
     let is = MatchOption-at_some _ _ _ c.in-Some.is c.kept_type.ensures in
     let kept = subst (λ (source : Source). IsKept source.kept t.x t.e.word) is.0 t.kept in
     let put = c.put_words.ensures ∙ (λ i. put_text c.args.out.now (Ok c.args.at) (whole (at_kept words_part (is.0 i).kept (is.0 i).bases.now c.args.part t.x t.e.word (words_in (is.0 i).kept.index.table.head (is.0 i).kept.index.table.section.now t.e.word)))) in
-    kept_is _ _ _ _ _ _ _ refl _ _ (kept_at _ _ _ is.1 kept.kept) _ (kept.entry ∙ ap (entry_at _ _) is.1) _ is.1 _ _ _ put
+    λ l. kept_is _ _ _ _ _ _ _ refl _ _ (kept_at _ _ _ is.1 kept.kept) _ (kept.entry ∙ ap (entry_at _ _) is.1) _ is.1 _ _ _ put
