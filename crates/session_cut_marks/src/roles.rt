@@ -8,8 +8,8 @@ use btf_type_table::kind::vlen_of;
 use btf_type_table::table::Table;
 use spec_type_table::{KINDS, Kind};
 
-// The words that every record of its kind has. (Not by btf_type_table's `extra_of`: that tells bytes by the kind of an info word, and none
-// for void and where there is no such kind. Here the kind is the entry's, and the words of those two are 3 and 0.)
+// The words that every record of its kind has. (Not by btf_type_table's `extra_of`: that tells bytes, with those of the entries, and none
+// for void and where there is no such kind. The words of those two are 3 and 0 here.)
 fn fixed_words(e: Entry) -> u32
     ensures { result ≡ fixed_words (e.word % 32) }
 {
