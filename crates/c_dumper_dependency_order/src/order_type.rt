@@ -8,12 +8,12 @@ ghost use Rattle.spec_type_table.specs.Nodes.{member_ids};
 ghost use Rattle.c_dumper_dependency_order.specs.entries.Entries.{entry_ids};
 ghost use Rattle.c_dumper_dependency_order.specs.order_state.Work.{table_in};
 ghost use Rattle.c_dumper_dependency_order.specs.begin.Start.{limit_of};
-ghost use Rattle.c_dumper_dependency_order.specs.leaders.Leads.{order_kept, kept_of, kept_out, way_kept, fresh_kept, enter_kept};
-ghost use Rattle.c_dumper_dependency_order.specs.leaders.Leads.{lead_words};
+ghost use Rattle.c_dumper_dependency_order.specs.leaders.Leaders.{order_kept, kept_of, kept_out, way_kept, fresh_kept, enter_kept};
+ghost use Rattle.c_dumper_dependency_order.specs.leaders.Leaders.{leader_words};
 
 use crate::entries::Held;
 use crate::finish::{finish, finish_typedef, mark_ordered};
-use crate::leaders::Lead;
+use crate::leaders::Leader;
 use crate::order_state::{Halted, Mark, Order, get_mark, set_mark};
 use crate::ways::{Step, is_passed, is_weak_past};
 use base_bytes::refusal::Refusal;
@@ -36,14 +36,14 @@ impl Orderer<'_> {
     pub fn order_type(
         &self,
         work: &mut [u8],
-        leads: &mut [Lead],
+        leaders: &mut [Leader],
         o: Order,
         id: u32,
         step: Step,
     ) -> Result<Order, Halted>
-        ensures { kept_out result work.new (lead_words leads.new) ≡ order_kept (limit_of self.now.ceiling) step.way step.left
+        ensures { kept_out result work.new (leader_words leaders.new) ≡ order_kept (limit_of self.now.ceiling) step.way step.left
             (table_in self.now.table.head self.now.table.section.now work.old)
-            (kept_of o work.old (lead_words leads.old)) id step.has_ptr o.made }
+            (kept_of o work.old (leader_words leaders.old)) id step.has_ptr o.made }
     {
         if step.left == 0 {
             return Err(o.refused(Refusal::TooDeep));
@@ -54,7 +54,7 @@ impl Orderer<'_> {
             Mark::Open => self.meet(work, p, id, step.has_ptr),
             Mark::New => {
                 let left = step.left - 1;
-                self.order_new(work, leads, p, id, Step { left, ..step })
+                self.order_new(work, leaders, p, id, Step { left, ..step })
             }
         }
     }
@@ -65,19 +65,19 @@ impl Orderer<'_> {
     fn order_next(
         &self,
         work: &mut [u8],
-        leads: &mut [Lead],
+        leaders: &mut [Leader],
         o: Order,
         id: u32,
         step: Step,
     ) -> Result<Order, Halted>
-        ensures { kept_out result work.new (lead_words leads.new) ≡ order_kept (limit_of self.now.ceiling) step.way step.left
+        ensures { kept_out result work.new (leader_words leaders.new) ≡ order_kept (limit_of self.now.ceiling) step.way step.left
             (table_in self.now.table.head self.now.table.section.now work.old)
-            (kept_of o work.old (lead_words leads.old)) id step.has_ptr o.made }
+            (kept_of o work.old (leader_words leaders.old)) id step.has_ptr o.made }
     {
         if self.is_known(work, o, id, step.left) {
             return Ok(self.count_call(o)?.strong(true));
         }
-        self.order_type(work, leads, o, id, step)
+        self.order_type(work, leaders, o, id, step)
     }
 
     // An id that is not ordered yet.
@@ -85,14 +85,14 @@ impl Orderer<'_> {
     fn order_new(
         &self,
         work: &mut [u8],
-        leads: &mut [Lead],
+        leaders: &mut [Leader],
         o: Order,
         id: u32,
         step: Step,
     ) -> Result<Order, Halted>
-        ensures { kept_out result work.new (lead_words leads.new) ≡ fresh_kept (limit_of self.now.ceiling) step.way
+        ensures { kept_out result work.new (leader_words leaders.new) ≡ fresh_kept (limit_of self.now.ceiling) step.way
             (table_in self.now.table.head self.now.table.section.now work.old) step.left
-            (kept_of o work.old (lead_words leads.old)) id step.has_ptr o.made }
+            (kept_of o work.old (leader_words leaders.old)) id step.has_ptr o.made }
     {
         let t = self.table.type_by_id(work, id);
         match self.table.node_of(t) {
@@ -100,28 +100,28 @@ impl Orderer<'_> {
             Node::Plain => Ok(mark_ordered(work, o, id, false)),
             Node::Enum | Node::Fwd => {
                 let named = self.table.is_named(t);
-                Ok(finish(work, leads, o, id, named, step.way))
+                Ok(finish(work, leaders, o, id, named, step.way))
             }
             Node::Array(t) => {
                 let has_ptr = is_weak_past(self.table.head, step.has_ptr);
-                self.order_next(work, leads, o, t, Step { has_ptr, ..step })
+                self.order_next(work, leaders, o, t, Step { has_ptr, ..step })
             }
-            Node::Through(t) => self.order_next(work, leads, o, t, step),
+            Node::Through(t) => self.order_next(work, leaders, o, t, step),
             Node::Ptr(t) => {
-                let r = self.order_next(work, leads, o, t, step.weak())?;
+                let r = self.order_next(work, leaders, o, t, step.weak())?;
                 Ok(mark_ordered(work, r, id, r.is_strong))
             }
             Node::Typedef(t) => {
-                let r = self.order_type(work, leads, o, t, step.inside(id))?;
-                Ok(finish_typedef(work, leads, r, id, step))
+                let r = self.order_type(work, leaders, o, t, step.inside(id))?;
+                Ok(finish_typedef(work, leaders, r, id, step))
             }
             Node::Proto(res, params) => {
-                let r = self.order_type(work, leads, o, res, step)?;
-                self.order_entries(work, leads, r, Held::Params(params), step)
+                let r = self.order_type(work, leaders, o, res, step)?;
+                self.order_entries(work, leaders, r, Held::Params(params), step)
             }
             Node::Composite(_) => {
                 let x = TypeRef { id, t };
-                self.order_composite(work, leads, o, x, step)
+                self.order_composite(work, leaders, o, x, step)
             }
         }
     }
@@ -131,14 +131,14 @@ impl Orderer<'_> {
     fn order_composite(
         &self,
         work: &mut [u8],
-        leads: &mut [Lead],
+        leaders: &mut [Leader],
         o: Order,
         x: TypeRef,
         step: Step,
     ) -> Result<Order, Halted>
-        ensures { kept_out result work.new (lead_words leads.new) ≡ enter_kept (limit_of self.now.ceiling) step.way
+        ensures { kept_out result work.new (leader_words leaders.new) ≡ enter_kept (limit_of self.now.ceiling) step.way
             (table_in self.now.table.head self.now.table.section.now work.old) step.left
-            (kept_of o work.old (lead_words leads.old)) x.id step.has_ptr
+            (kept_of o work.old (leader_words leaders.old)) x.id step.has_ptr
             (is_named (type_of self.now.table.head self.now.table.section.now x.t))
             (member_ids self.now.table.head self.now.table.section.now (entries_of x.t)) o.made }
     {
@@ -148,8 +148,8 @@ impl Orderer<'_> {
         }
         set_mark(work, x.id, cell::ORDER_STATE, Mark::Open);
         let members = Held::Members(entries_of(x.t));
-        let r = self.order_entries(work, leads, o, members, step.to_members(x.id))?;
-        Ok(finish(work, leads, r, x.id, named, step.way))
+        let r = self.order_entries(work, leaders, o, members, step.to_members(x.id))?;
+        Ok(finish(work, leaders, r, x.id, named, step.way))
     }
 
     // The types of entries in order; the way is strong if one of them was, or what came before. (A `for`: try_fold was tried, and the
@@ -158,21 +158,21 @@ impl Orderer<'_> {
     fn order_entries(
         &self,
         work: &mut [u8],
-        leads: &mut [Lead],
+        leaders: &mut [Leader],
         o: Order,
         entries: Held,
         step: Step,
     ) -> Result<Order, Halted>
-        ensures { kept_out result work.new (lead_words leads.new) ≡ each_within
+        ensures { kept_out result work.new (leader_words leaders.new) ≡ each_within
             (way_kept (limit_of self.now.ceiling) step.way
             (table_in self.now.table.head self.now.table.section.now work.old) step.left step.has_ptr)
             (entry_ids self.now.table.head self.now.table.section.now entries)
-            (kept_of o work.old (lead_words leads.old)) o.is_strong o.made }
+            (kept_of o work.old (leader_words leaders.old)) o.is_strong o.made }
     {
         let mut r = o;
         for k in 0..entries.count() {
             let t = entries.entry_type(&self.table, k);
-            let p = self.order_next(work, leads, r, t, step)?;
+            let p = self.order_next(work, leaders, r, t, step)?;
             // `||` is no plainer here: the proof would go two ways to one equation.
             r = p.strong(r.is_strong | p.is_strong);
         }

@@ -1,7 +1,7 @@
 // Small decisions of ordering, with no call of it: how it comes to a type, which ways are weak, which composites are passed over, and
 // what one more call comes to under a ceiling.
 ghost use Rattle.std.specs.Prelude.{◌≡◌, not, ◌&&◌, true, false};
-ghost use Rattle.c_dumper_dependency_order.specs.leaders.Leads.{inside_of};
+ghost use Rattle.c_dumper_dependency_order.specs.leaders.Leaders.{inside_of};
 ghost use Rattle.c_dumper_dependency_order.specs.ways.Idle.{counted};
 
 use crate::leaders::Way;

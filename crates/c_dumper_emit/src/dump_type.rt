@@ -6,11 +6,11 @@ ghost use Rattle.spec_type_table.specs.Cells.{get_field};
 ghost use Rattle.spec_type_table.specs.Table.{btf_of};
 ghost use Rattle.c_dumper_dependency_order.specs.order_state.Work.{mark_of, table_in};
 ghost use Rattle.c_dumper_dependency_order.specs.begin.Start.{limit_of};
-ghost use Rattle.c_dumper_dependency_order.specs.leaders.Leads.{lead_words};
+ghost use Rattle.c_dumper_dependency_order.specs.leaders.Leaders.{leader_words};
 ghost use Rattle.spec_session.specs.metered.Metered.{ordered_in};
-ghost use Rattle.spec_session.specs.emission.Sheet.{is_idle};
-ghost use Rattle.c_dumper_emit.specs.entries.Noted.{lent_list, noted_out};
-ghost use Rattle.c_dumper_emit.specs.dump_type.Kept.{with_leads, dumped_kept};
+ghost use Rattle.spec_session.specs.emission.Slices.{is_idle};
+ghost use Rattle.c_dumper_emit.specs.entries.Traced.{lent_list, traced_out};
+ghost use Rattle.c_dumper_emit.specs.dump_type.Kept.{with_leaders, dumped_kept};
 
 use crate::emission::Emission;
 use crate::entries::Pen;
@@ -19,7 +19,7 @@ use base_bytes::limit;
 use base_bytes::refusal::Refusal;
 use btf_type_table::cell;
 use btf_type_table::table::Table;
-use c_dumper_dependency_order::leaders::{Lead, Way};
+use c_dumper_dependency_order::leaders::{Leader, Way};
 use c_dumper_dependency_order::order_state::{Mark, Order, get_mark};
 use c_dumper_dependency_order::order_type::Orderer;
 use c_dumper_dependency_order::ways::Step;
@@ -60,20 +60,20 @@ pub struct Dumped {
     pub made: u64,
 }
 
-// One request, after so many calls of ordering. `leads` serves the requests of a call with a list one after another: what other
+// One request, after so many calls of ordering. `leaders` serves the requests of a call with a list one after another: what other
 // turns noted there is not read. Without a list it may be empty.
 pub fn dump_type(
     o: &Orderer,
     work: &mut [u8],
     text: &mut [u8],
     list: &mut [u8],
-    leads: &mut [Lead],
+    leaders: &mut [Leader],
     p: Pen,
     q: Request,
     made: u64,
 ) -> Dumped
-    ensures { (with_leads (lead_words leads.new) (noted_out 0 result.pen text.new work.new list.new)
-        ≡ obind (with_leads (lead_words leads.old) (noted_out 0 (Ok p) text.old work.old list.old))
+    ensures { (with_leaders (leader_words leaders.new) (traced_out 0 result.pen text.new work.new list.new)
+        ≡ obind (with_leaders (leader_words leaders.old) (traced_out 0 (Ok p) text.old work.old list.old))
         (λ m. dumped_kept o.now.table.head (btf_of o.now.table.head o.now.table.section.now work.old)
         (lent_list q.lists list.old) (limit_of o.now.ceiling) m q.req q.turn made))
         × (result.made ≡ calls_made (ordered_in (btf_of o.now.table.head o.now.table.section.now work.old)
@@ -94,7 +94,7 @@ pub fn dump_type(
         left: limit::MOST_CALLS,
         way,
     };
-    let r = match o.order_type(work, leads, start, q.req, step) {
+    let r = match o.order_type(work, leaders, start, q.req, step) {
         Ok(r) => r,
         Err(h) => {
             return Dumped {
@@ -106,7 +106,7 @@ pub fn dump_type(
     let emission = Emission {
         table: o.table,
         request: q,
-        leads: leads,
+        leaders: leaders,
     };
     let pen = emission.emit_ordered(work, text, list, p, r.len);
     clear_list(work, r.len);

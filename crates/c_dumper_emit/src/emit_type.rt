@@ -7,11 +7,11 @@ ghost use Rattle.spec_c_dumper.specs.rules.Order.{is_done};
 ghost use Rattle.spec_type_table.specs.Cells.{get_field};
 ghost use Rattle.spec_type_table.specs.Records.{entries_of};
 ghost use Rattle.spec_type_table.specs.Nodes.{member_ids};
-ghost use Rattle.spec_session.specs.emission.Sheet.{sheet_store};
+ghost use Rattle.spec_session.specs.emission.Slices.{slices_store};
 ghost use Rattle.c_dumper_dependency_order.specs.entries.Entries.{entry_ids};
 ghost use Rattle.c_dumper_dependency_order.specs.order_state.Work.{mark_of};
 ghost use Rattle.c_dumper_emit.specs.emission.At.{at_emission, IsLoaded};
-ghost use Rattle.c_dumper_emit.specs.entries.Noted.{noted_out, emit_n, new_n, composite_n, leaf_n};
+ghost use Rattle.c_dumper_emit.specs.entries.Traced.{traced_out, emit_n, new_n, composite_n, leaf_n};
 
 use crate::emission::Emission;
 use crate::entries::{Cause, Pen};
@@ -47,8 +47,8 @@ impl Emission<'_> {
         cont: u32,
         left: u32,
     ) -> Result<Pen, Refusal>
-        ensures { (n : ℕ) → noted_out n result text.new work.new list.new
-            ≡ obind (noted_out n (Ok p) text.old work.old list.old)
+        ensures { (n : ℕ) → traced_out n result text.new work.new list.new
+            ≡ obind (traced_out n (Ok p) text.old work.old list.old)
             (λ m. at_emission emit_n self.now work.old list.old left cont m id) }
     {
         if left == 0 {
@@ -81,8 +81,8 @@ impl Emission<'_> {
         left: u32,
     ) -> Result<Pen, Refusal>
         requires { IsLoaded self.now work.old x }
-        ensures { (n : ℕ) → noted_out n result text.new work.new list.new
-            ≡ obind (noted_out n (Ok p) text.old work.old list.old)
+        ensures { (n : ℕ) → traced_out n result text.new work.new list.new
+            ≡ obind (traced_out n (Ok p) text.old work.old list.old)
             (λ m. at_emission new_n self.now work.old list.old left cont m x.id) }
     {
         match self.table.node_of(x.t) {
@@ -118,8 +118,8 @@ impl Emission<'_> {
         left: u32,
     ) -> Result<Pen, Refusal>
         requires { IsLoaded self.now work.old x }
-        ensures { (n : ℕ) → noted_out n result text.new work.new list.new
-            ≡ obind (noted_out n (Ok p) text.old work.old list.old)
+        ensures { (n : ℕ) → traced_out n result text.new work.new list.new
+            ≡ obind (traced_out n (Ok p) text.old work.old list.old)
             (λ m. at_emission composite_n self.now work.old list.old left cont
             (member_ids self.now.table.head self.now.table.section.now (entries_of x.t)) m x.id) }
     {
@@ -146,8 +146,8 @@ impl Emission<'_> {
         cont: u32,
         left: u32,
     ) -> Result<Pen, Refusal>
-        ensures { (n : ℕ) → noted_out n result text.new work.new list.new
-            ≡ obind (noted_out n (Ok p) text.old work.old list.old)
+        ensures { (n : ℕ) → traced_out n result text.new work.new list.new
+            ≡ obind (traced_out n (Ok p) text.old work.old list.old)
             (λ m. eeach (at_emission emit_n self.now work.old list.old left cont)
             (entry_ids self.now.table.head self.now.table.section.now entries) m) }
     {
@@ -175,8 +175,8 @@ impl Emission<'_> {
         fwd: bool,
     ) -> Result<Pen, Refusal>
         requires { IsLoaded self.now work.old x }
-        ensures { (n : ℕ) → noted_out n result text.new work.new list.new
-            ≡ obind (noted_out n (Ok p) text.old work.old list.old)
+        ensures { (n : ℕ) → traced_out n result text.new work.new list.new
+            ≡ obind (traced_out n (Ok p) text.old work.old list.old)
             (λ m. at_emission leaf_n self.now work.old list.old fwd cont m x.id) }
     {
         if fwd || cont == 0 {
@@ -198,9 +198,9 @@ impl Emission<'_> {
         p: Pen,
         n: u32,
     ) -> Result<Pen, Refusal>
-        ensures { noted_out n result text.new work.new list.new
-            ≡ obind (noted_out n (Ok p) text.old work.old list.old)
-            (λ m. eeach (at_emission emit_n self.now work.old list.old 512 0) (sheet_store.list m.mach) m) }
+        ensures { traced_out n result text.new work.new list.new
+            ≡ obind (traced_out n (Ok p) text.old work.old list.old)
+            (λ m. eeach (at_emission emit_n self.now work.old list.old 512 0) (slices_store.list m.mach) m) }
     {
         let mut a = p;
         for k in 0..n {

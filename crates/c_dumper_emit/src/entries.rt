@@ -3,8 +3,8 @@ ghost use Rattle.std.specs.Prelude.{◌≡◌, List, ℕ, ◌<◌, ◌/◌, leng
 ghost use Rattle.spec_c_dumper.specs.rules.Machine.{obind};
 ghost use Rattle.spec_c_dumper.specs.origins.Causes.{entry, cause_at, entries_in};
 ghost use Rattle.spec_type_table.specs.Table.{type_of};
-ghost use Rattle.c_dumper_dependency_order.specs.leaders.Leads.{lead_words, entry_in};
-ghost use Rattle.c_dumper_emit.specs.entries.Noted.{cause_code, entry_of, entry_put, noted_out, note_n, note_if_n, shown_of};
+ghost use Rattle.c_dumper_dependency_order.specs.leaders.Leaders.{leader_words, entry_in};
+ghost use Rattle.c_dumper_emit.specs.entries.Traced.{cause_code, entry_of, entry_put, traced_out, note_n, note_if_n, shown_of};
 
 use crate::emission::Emission;
 use base_bytes::refusal::Refusal;
@@ -53,7 +53,7 @@ pub struct Origin {
 impl Emission<'_> {
     // The entry of a listed id.
     pub fn listed_origin(&self, id: u32) -> Origin
-        ensures { entry_of result ≡ entry_in self.now.request.req self.now.request.turn (lead_words self.now.leads.now) id }
+        ensures { entry_of result ≡ entry_in self.now.request.req self.now.request.turn (leader_words self.now.leaders.now) id }
     {
         if id == self.request.req {
             return Origin {
@@ -65,14 +65,14 @@ impl Emission<'_> {
         Origin {
             id,
             cause: Cause::Needed,
-            leader: leader_of(self.leads, self.request.req, self.request.turn, id),
+            leader: leader_of(self.leaders, self.request.req, self.request.turn, id),
         }
     }
 
     // At the top a line is there because its id is listed, within a container because of that.
     pub fn origin_at(&self, within: Cause, id: u32, cont: u32) -> Origin
         ensures { entry_of result ≡ cause_at (cause_code within)
-            (entry_in self.now.request.req self.now.request.turn (lead_words self.now.leads.now) id) id cont }
+            (entry_in self.now.request.req self.now.request.turn (leader_words self.now.leaders.now) id) id cont }
     {
         if cont == 0 {
             return self.listed_origin(id);
@@ -108,8 +108,8 @@ fn put_entry(list: &mut [u8], k: usize, id: u32, cause: u32, leader: u32)
 
 // One more entry, whatever the number of its cause, or 17.
 pub fn note(list: &mut [u8], p: Pen, id: u32, cause: u32, leader: u32) -> Result<Pen, Refusal>
-    ensures { (n : ℕ) (t w : List ℕ) → noted_out n result t w list.new
-        ≡ obind (noted_out n (Ok p) t w list.old) (λ m. note_n (entries_in list.old) (entry id cause leader) m) }
+    ensures { (n : ℕ) (t w : List ℕ) → traced_out n result t w list.new
+        ≡ obind (traced_out n (Ok p) t w list.old) (λ m. note_n (entries_in list.old) (entry id cause leader) m) }
 {
     if list.len() / ENTRY_BYTES <= p.count {
         return Err(Refusal::TextFull);
@@ -123,8 +123,8 @@ pub fn note(list: &mut [u8], p: Pen, id: u32, cause: u32, leader: u32) -> Result
 
 // Of a line that prints nothing there is no entry.
 pub fn note_if(list: &mut [u8], p: Pen, e: Origin, shown: bool) -> Result<Pen, Refusal>
-    ensures { (n : ℕ) (t w : List ℕ) → noted_out n result t w list.new
-        ≡ obind (noted_out n (Ok p) t w list.old)
+    ensures { (n : ℕ) (t w : List ℕ) → traced_out n result t w list.new
+        ≡ obind (traced_out n (Ok p) t w list.old)
         (λ m. note_if_n shown (entries_in list.old) (entry_of e) m) }
 {
     if shown {

@@ -4,7 +4,7 @@ ghost use Rattle.spec_c_dumper.specs.rules.Machine.{obind};
 ghost use Rattle.spec_c_dumper.specs.alignment_once.Writers.{definition_once, forward_once};
 ghost use Rattle.btf_layout.specs.asked.Asked.{work_asks};
 ghost use Rattle.spec_type_table.specs.Table.{type_of, btf_of, work_naming};
-ghost use Rattle.c_dumper_emit.specs.entries.Noted.{entry_of, noted_out, lent_list, line_n, shown_of};
+ghost use Rattle.c_dumper_emit.specs.entries.Traced.{entry_of, traced_out, lent_list, line_n, shown_of};
 
 use crate::emission::Emission;
 use crate::entries::{Origin, Pen, is_shown, note_if};
@@ -24,8 +24,8 @@ impl Emission<'_> {
         x: TypeRef,
         e: Origin,
     ) -> Result<Pen, Refusal>
-        ensures { (n : ℕ) → noted_out n result text.new work.new list.new
-            ≡ obind (noted_out n (Ok p) text.old work.old list.old)
+        ensures { (n : ℕ) → traced_out n result text.new work.new list.new
+            ≡ obind (traced_out n (Ok p) text.old work.old list.old)
             (λ m. line_n (lent_list self.now.request.lists list.old) true (entry_of e)
             (definition_once
             (work_asks self.now.table.head.types (btf_of self.now.table.head self.now.table.section.now work.old))
@@ -59,8 +59,8 @@ impl Emission<'_> {
         x: TypeRef,
         e: Origin,
     ) -> Result<Pen, Refusal>
-        ensures { (n : ℕ) → noted_out n result text.new work.new list.new
-            ≡ obind (noted_out n (Ok p) text.old work.old list.old)
+        ensures { (n : ℕ) → traced_out n result text.new work.new list.new
+            ≡ obind (traced_out n (Ok p) text.old work.old list.old)
             (λ m. line_n (lent_list self.now.request.lists list.old)
             (shown_of (type_of self.now.table.head self.now.table.section.now x.t)) (entry_of e)
             (forward_once

@@ -1,6 +1,6 @@
 // The order list, emptied after a request.
 ghost use Rattle.std.specs.Prelude.{◌≡◌};
-ghost use Rattle.spec_session.specs.emission.Sheet.{emptied};
+ghost use Rattle.spec_session.specs.emission.Slices.{emptied};
 
 use c_dumper_dependency_order::order_state::set_listed;
 

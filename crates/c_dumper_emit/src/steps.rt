@@ -5,10 +5,10 @@ ghost use Rattle.spec_c_dumper.specs.rules.Machine.{pick, obind};
 ghost use Rattle.spec_type_table.specs.Cells.{get_field, put_field};
 ghost use Rattle.spec_type_table.specs.Table.{type_of};
 ghost use Rattle.spec_c_dumper.specs.origins.Causes.{cause_at};
-ghost use Rattle.c_dumper_dependency_order.specs.leaders.Leads.{lead_words, entry_in};
+ghost use Rattle.c_dumper_dependency_order.specs.leaders.Leaders.{leader_words, entry_in};
 ghost use Rattle.c_dumper_emit.specs.emission.At.{lent_at, at_emission};
-ghost use Rattle.c_dumper_emit.specs.entries.Noted.{entry_of, noted_out, has_n, once_n, mention_n};
-ghost use Rattle.c_dumper_emit.specs.entries.Noted.{again_n, typedef_n, mentioned_n, ended_n};
+ghost use Rattle.c_dumper_emit.specs.entries.Traced.{entry_of, traced_out, has_n, once_n, mention_n};
+ghost use Rattle.c_dumper_emit.specs.entries.Traced.{again_n, typedef_n, mentioned_n, ended_n};
 
 use crate::emission::Emission;
 use crate::entries::{Cause, Origin, Pen, forward_origin};
@@ -49,8 +49,8 @@ impl Emission<'_> {
         x: TypeRef,
         e: Origin,
     ) -> Result<Pen, Refusal>
-        ensures { (n : ℕ) → noted_out n result text.new work.new list.new
-            ≡ obind (noted_out n (Ok p) text.old work.old list.old)
+        ensures { (n : ℕ) → traced_out n result text.new work.new list.new
+            ≡ obind (traced_out n (Ok p) text.old work.old list.old)
             (λ m. lent_at once_n self.now work.old list.old
             (type_of self.now.table.head self.now.table.section.now x.t) (entry_of e)
             (lent_at has_n self.now work.old list.old m x.id) m x.id) }
@@ -73,8 +73,8 @@ impl Emission<'_> {
         id: u32,
         cont: u32,
     ) -> Result<Pen, Refusal>
-        ensures { (n : ℕ) → noted_out n result text.new work.new list.new
-            ≡ obind (noted_out n (Ok p) text.old work.old list.old)
+        ensures { (n : ℕ) → traced_out n result text.new work.new list.new
+            ≡ obind (traced_out n (Ok p) text.old work.old list.old)
             (λ m. at_emission again_n self.now work.old list.old cont m id) }
     {
         if get_fwd_emitted(work, id) {
@@ -108,8 +108,8 @@ impl Emission<'_> {
         x: TypeRef,
         cont: u32,
     ) -> Result<Pen, Refusal>
-        ensures { (n : ℕ) → noted_out n result text.new work.new list.new
-            ≡ obind (noted_out n (Ok p) text.old work.old list.old)
+        ensures { (n : ℕ) → traced_out n result text.new work.new list.new
+            ≡ obind (traced_out n (Ok p) text.old work.old list.old)
             (λ m. lent_at mention_n self.now work.old list.old
             (type_of self.now.table.head self.now.table.section.now x.t) cont m x.id) }
     {
@@ -130,8 +130,8 @@ impl Emission<'_> {
         x: TypeRef,
         cont: u32,
     ) -> Result<Pen, Refusal>
-        ensures { (n : ℕ) → noted_out n result text.new work.new list.new
-            ≡ obind (noted_out n (Ok p) text.old work.old list.old)
+        ensures { (n : ℕ) → traced_out n result text.new work.new list.new
+            ≡ obind (traced_out n (Ok p) text.old work.old list.old)
             (λ m. lent_at mentioned_n self.now work.old list.old
             (type_of self.now.table.head self.now.table.section.now x.t) cont m x.id) }
     {
@@ -151,11 +151,11 @@ impl Emission<'_> {
         x: TypeRef,
         cont: u32,
     ) -> Result<Pen, Refusal>
-        ensures { (n : ℕ) → noted_out n result text.new work.new list.new
-            ≡ obind (noted_out n (Ok p) text.old work.old list.old)
+        ensures { (n : ℕ) → traced_out n result text.new work.new list.new
+            ≡ obind (traced_out n (Ok p) text.old work.old list.old)
             (λ m. lent_at typedef_n self.now work.old list.old
             (type_of self.now.table.head self.now.table.section.now x.t)
-            (cause_at 3 (entry_in self.now.request.req self.now.request.turn (lead_words self.now.leads.now) x.id) x.id cont) m x.id) }
+            (cause_at 3 (entry_in self.now.request.req self.now.request.turn (leader_words self.now.leaders.now) x.id) x.id cont) m x.id) }
     {
         let e = self.origin_at(Cause::EarlyTypedef, x.id, cont);
         let a = self.emit_once(work, text, list, p, x, e)?;
@@ -173,11 +173,11 @@ impl Emission<'_> {
         x: TypeRef,
         cont: u32,
     ) -> Result<Pen, Refusal>
-        ensures { (n : ℕ) → noted_out n result text.new work.new list.new
-            ≡ obind (noted_out n (Ok p) text.old work.old list.old)
+        ensures { (n : ℕ) → traced_out n result text.new work.new list.new
+            ≡ obind (traced_out n (Ok p) text.old work.old list.old)
             (λ m. lent_at ended_n self.now work.old list.old (eqb cont 0)
             (type_of self.now.table.head self.now.table.section.now x.t)
-            (entry_in self.now.request.req self.now.request.turn (lead_words self.now.leads.now) x.id) m x.id) }
+            (entry_in self.now.request.req self.now.request.turn (leader_words self.now.leaders.now) x.id) m x.id) }
     {
         if cont != 0 {
             set_mark(work, x.id, cell::EMIT_STATE, Mark::New);

@@ -30,7 +30,7 @@ use Rattle.proof_demands.specs.demands.Session as old
 use Rattle.proof_demands.specs.demands.Demands as before_that
 use Rattle.proof_names_apart.specs.none_passed.Watched.{passes_over, Watched, type_watched, value_watched, watched, line_watched, lines_watched, NeverOver, none_watched, opened_watched, PassesNone}
 use Rattle.proof_names_apart.specs.same_text.Claims as work
-use Rattle.proof_names_apart.proofs.few_names.Few.{few_names}
+use Rattle.proof_names_apart.proofs.name_counts.Counts.{few_names}
 use Rattle.proof_names_apart.proofs.names_apart.Session.{two_types, two_values, typedef_then_value, value_then_typedef}
 use Rattle.proof_names_apart.proofs.names_apart.Bounds.{always_enough, session_apart}
 use Rattle.proof_names_apart.proofs.same_text.Claims.{both_modes}

@@ -80,7 +80,7 @@ claims = record {
   request08_c = c_apart_alike;
   request09 = record { reads_back = reads_back; exactly = exactly; decodes = decodes; numbered = numbered };
   request10 = two_headers;
-  request11 = record { leads = sound; unique = unique; refused = refused_leaves };
+  request11 = record { is_path = sound; unique = unique; refused = refused_leaves };
   request12 = session_reasoned;
   request13 = record {
     one = λ s section w t c id n. type_fits s section w t c id 0 zero-le n;

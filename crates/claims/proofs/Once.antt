@@ -12,7 +12,7 @@ use Rattle.spec_c_dumper.specs.needs.Session.{no_names}
 use Rattle.spec_c_dumper.specs.names_apart.Apart.{apart, none_shown}
 use Rattle.spec_c_dumper.specs.alignment_once.Once.{table_keep, blank, members_to, member_count}
 use Rattle.spec_c_dumper.proofs.alignment_once.Tables.{Any, Each, table_lawful}
-use Rattle.spec_c_dumper.proofs.alignment_once.Session.{minded_session}
+use Rattle.spec_c_dumper.proofs.alignment_once.Session.{remembering_session}
 use Rattle.spec_type_table.specs.Table as btf
 use Rattle.btf_open_causes.specs.header.Header as header
 use Rattle.spec_opening.specs.Causes.{opening_number}
@@ -84,13 +84,13 @@ module _ (p modes : ℕ) (s : List ℕ) (n : ℕ) (y : Bytes s) (ok : opening_nu
 -- ---- of any calls, from those on a session
 module _ {R C : Type 0} (K : Calls R C) (visits : C → ℕ) (p modes : ℕ) (s : List ℕ) (n : ℕ) (sound : (c : C) (rs : List Req) → After K p modes s n c rs → opening_number p s n ≡ 0)
     (session : C → Call) (after : (c : C) (rs : List Req) → After K p modes s n c rs → old.After p modes s n (session c) rs) (kept : (c : C) → visits c ≡ (session c).session.visits) where
-  minds : {U : Type 0} (N : Naming U) (u : U) → Bytes s → (c : C) (rs : List Req) → After K p modes s n c rs → Answered K visits p modes s n U N u c rs
-  minds N u y c rs a =
+  remembered_answers : {U : Type 0} (N : Naming U) (u : U) → Bytes s → (c : C) (rs : List Req) → After K p modes s n c rs → Answered K visits p modes s n U N u c rs
+  remembered_answers N u y c rs a =
       let ok = sound c rs a in
       let E : Btf = table_in p modes s in
       record {
         at_most = subst (λ (k : ℕ). k ≤ E.type_cnt + members_to E E.type_cnt) (sym (kept c)) (at_most p modes s n y ok (session c) rs (after c rs a));
-        answers = minded_session (table_keep E.type_cnt) N E Any Each (table_lawful E.type_cnt) (λ id t q l. tt) (described_wf p modes s n y ok) (ends p modes s n y ok) u blank tt (λ id. refl) rs;
+        answers = remembering_session (table_keep E.type_cnt) N E Any Each (table_lawful E.type_cnt) (λ id t q l. tt) (described_wf p modes s n y ok) (ends p modes s n y ok) u blank tt (λ id. refl) rs;
       }
 
   pub once : Request07 K visits p modes s n
@@ -102,7 +102,7 @@ module _ {R C : Type 0} (K : Calls R C) (visits : C → ℕ) (p modes : ℕ) (s 
           spells = record { types = opened_types p modes s n y ok; tags = tags_same p modes s n y ok };
           count = kept c ∙ count p modes s n y ok off (session c) rs (after c rs a);
         };
-    answered = record { plain = λ y off c rs a. minds naming (no_names (table_in p modes s)) y c rs a; names_apart = λ y on c rs a. minds (apart (table_in p modes s)) (none_shown (table_in p modes s)) y c rs a };
+    answered = record { plain = λ y off c rs a. remembered_answers naming (no_names (table_in p modes s)) y c rs a; names_apart = λ y on c rs a. remembered_answers (apart (table_in p modes s)) (none_shown (table_in p modes s)) y c rs a };
   }
 
 pub session_once : (p modes : ℕ) (s : List ℕ) (n : ℕ) → Request07 on_session session_visits p modes s n

@@ -23,7 +23,7 @@ use Rattle.spec_c_dumper.proofs.needs.Session.{machine_lawful}
 use Rattle.spec_c_dumper.proofs.needs.Alike.{AlikeMachine, BothSess, BothAnswer, run_alike}
 use Rattle.spec_c_dumper.proofs.needs.AnyNames.{Nearly, names_alike}
 use Rattle.spec_c_dumper.specs.names_apart.Apart.{Apart, apart, none_shown}
-use Rattle.spec_c_dumper.specs.origins.Causes.{Noted, Led, order_led, listed_entry, each_listed, ids_from, shows_in, always, up_to, entries_in, filled, Explaining, untold, dropped, emitted_noted, ordered_noted, gate_noted, single_noted, onward_noted, list_noted, from_noted, every_noted, Causes, causes_of, one_causes, list_causes, all_causes}
+use Rattle.spec_c_dumper.specs.origins.Causes.{Traced, WithLeaders, order_with_leaders, listed_entry, each_listed, ids_from, shows_in, always, up_to, entries_in, filled, Explaining, untold, dropped, emitted_traced, ordered_traced, gate_traced, single_traced, onward_traced, list_traced, from_traced, every_traced, Causes, causes_of, one_causes, list_causes, all_causes}
 use Rattle.spec_c_dumper.specs.origins.Claims.{FitsList, list_plain}
 use Rattle.spec_c_dumper.specs.origins.Lines.{Turns}
 use Rattle.spec_c_dumper.proofs.origins.Requests.{single_fits, every_fits, list_fits}
@@ -52,61 +52,61 @@ use Rattle.claims.proofs.Demands.{tells_by, session_after, session_sound, sessio
 
 -- ---- an accepted call has zeroed what follows its entries
 module _ {M : Type 0} (X : Machine M) (T : Table) (more shows : ℕ → Bool) (size : ℕ) where
-  emitted_zeroed : (t : Explaining M) (x : ℕ) (o : Out (Noted M)) → (emitted_noted X T more shows t x o).zeroed ≡ true
-  unfolding emitted_noted dropped
+  emitted_zeroed : (t : Explaining M) (x : ℕ) (o : Out (Traced M)) → (emitted_traced X T more shows t x o).zeroed ≡ true
+  unfolding emitted_traced dropped
   emitted_zeroed t x (wrote m) = refl
   emitted_zeroed t x (stuck e) = refl
 
-  ordered_zeroed : (t : Explaining M) (x : ℕ) (r : Res (Led M)) → (ordered_noted X T more shows t x r).zeroed ≡ true
-  unfolding ordered_noted dropped
-  ordered_zeroed t x (ok s b) = emitted_zeroed t x (each_listed X T more shows (listed_entry x s.led) (X.store.list s.state) (record { mach = s.state; entries = t.entries }))
+  ordered_zeroed : (t : Explaining M) (x : ℕ) (r : Res (WithLeaders M)) → (ordered_traced X T more shows t x r).zeroed ≡ true
+  unfolding ordered_traced dropped
+  ordered_zeroed t x (ok s b) = emitted_zeroed t x (each_listed X T more shows (listed_entry x s.leaders) (X.store.list s.state) (record { mach = s.state; entries = t.entries }))
   ordered_zeroed t x (refused e) = refl
 
-  gate_zeroed : (t : Explaining M) (x : ℕ) (o b : Bool) → (t.zeroed ≡ true) ⊎ ((gate_noted X T more shows size t x o b).answer.number ≡ 0) → (gate_noted X T more shows size t x o b).zeroed ≡ true
-  unfolding gate_noted
+  gate_zeroed : (t : Explaining M) (x : ℕ) (o b : Bool) → (t.zeroed ≡ true) ⊎ ((gate_traced X T more shows size t x o b).answer.number ≡ 0) → (gate_traced X T more shows size t x o b).zeroed ≡ true
+  unfolding gate_traced
   gate_zeroed t x false b (inl q) = q
   gate_zeroed t x false b (inr q) = absurd (let z : ◌≡◌ {A = ℕ} 11 0 = q in omega arith)
   gate_zeroed t x true false (inl q) = q
   gate_zeroed t x true false (inr q) = absurd (let z : ◌≡◌ {A = ℕ} 10 0 = q in omega arith)
-  gate_zeroed t x true true q = ordered_zeroed t x (order_led X.store x 512 T [] (record { state = X.start size t.answer.sess.mach; led = [] }) x false)
+  gate_zeroed t x true true q = ordered_zeroed t x (order_with_leaders X.store x 512 T [] (record { state = X.start size t.answer.sess.mach; leaders = [] }) x false)
 
-  single_zeroed : (x : ℕ) (t : Explaining M) → (t.zeroed ≡ true) ⊎ ((single_noted X T more shows size x t).answer.number ≡ 0) → (single_noted X T more shows size x t).zeroed ≡ true
-  unfolding single_noted
+  single_zeroed : (x : ℕ) (t : Explaining M) → (t.zeroed ≡ true) ⊎ ((single_traced X T more shows size x t).answer.number ≡ 0) → (single_traced X T more shows size x t).zeroed ≡ true
+  unfolding single_traced
   single_zeroed x t q = gate_zeroed t x t.answer.sess.is_open (ltb x T.count) q
 
-  onward_zeroed : (K : Explaining M → Explaining M) → ((u : Explaining M) → u.zeroed ≡ true → (K u).zeroed ≡ true) → (u : Explaining M) → u.zeroed ≡ true → (onward_noted X T more shows K u).zeroed ≡ true
-  unfolding onward_noted
+  onward_zeroed : (K : Explaining M → Explaining M) → ((u : Explaining M) → u.zeroed ≡ true → (K u).zeroed ≡ true) → (u : Explaining M) → u.zeroed ≡ true → (onward_traced X T more shows K u).zeroed ≡ true
+  unfolding onward_traced
   onward_zeroed K h u q = by u.answer.number
     where
       by : (m : ℕ) → (elim m as (λ (y : ℕ). Explaining M) [ zero ↦ K u | suc r ↦ u ]).zeroed ≡ true
       by zero = h u q
       by (suc m) = q
 
-  from_zeroed : (n x : ℕ) (t : Explaining M) → t.zeroed ≡ true → (from_noted X T more shows size n x t).zeroed ≡ true
-  unfolding from_noted
+  from_zeroed : (n x : ℕ) (t : Explaining M) → t.zeroed ≡ true → (from_traced X T more shows size n x t).zeroed ≡ true
+  unfolding from_traced
   from_zeroed zero x t q = q
-  from_zeroed (suc n) x t q = onward_zeroed (from_noted X T more shows size n (suc x)) (λ u z. from_zeroed n (suc x) u z) (single_noted X T more shows size x t) (single_zeroed x t (inl q))
+  from_zeroed (suc n) x t q = onward_zeroed (from_traced X T more shows size n (suc x)) (λ u z. from_zeroed n (suc x) u z) (single_traced X T more shows size x t) (single_zeroed x t (inl q))
 
-  list_zeroed : (xs : List ℕ) (t : Explaining M) → t.zeroed ≡ true → (list_noted X T more shows size xs t).zeroed ≡ true
-  unfolding list_noted
+  list_zeroed : (xs : List ℕ) (t : Explaining M) → t.zeroed ≡ true → (list_traced X T more shows size xs t).zeroed ≡ true
+  unfolding list_traced
   list_zeroed [] t q = q
-  list_zeroed (x ∷ xs) t q = onward_zeroed (list_noted X T more shows size xs) (λ u z. list_zeroed xs u z) (single_noted X T more shows size x t) (single_zeroed x t (inl q))
+  list_zeroed (x ∷ xs) t q = onward_zeroed (list_traced X T more shows size xs) (λ u z. list_zeroed xs u z) (single_traced X T more shows size x t) (single_zeroed x t (inl q))
 
-  list_accepted : (xs : List ℕ) (t : Explaining M) → (list_noted X T more shows size xs t).answer.number ≡ 0 → (xs ≡ [] → ⊥) → (list_noted X T more shows size xs t).zeroed ≡ true
-  unfolding list_noted onward_noted
+  list_accepted : (xs : List ℕ) (t : Explaining M) → (list_traced X T more shows size xs t).answer.number ≡ 0 → (xs ≡ [] → ⊥) → (list_traced X T more shows size xs t).zeroed ≡ true
+  unfolding list_traced onward_traced
   list_accepted [] t e k = absurd (k refl)
   list_accepted (x ∷ xs) t e k = by u.answer.number refl e
     where
       u : Explaining M
-      u = single_noted X T more shows size x t
+      u = single_traced X T more shows size x t
 
-      by : (m : ℕ) → u.answer.number ≡ m → (elim m as (λ (y : ℕ). Explaining M) [ zero ↦ list_noted X T more shows size xs u | suc r ↦ u ]).answer.number ≡ 0
-          → (elim m as (λ (y : ℕ). Explaining M) [ zero ↦ list_noted X T more shows size xs u | suc r ↦ u ]).zeroed ≡ true
+      by : (m : ℕ) → u.answer.number ≡ m → (elim m as (λ (y : ℕ). Explaining M) [ zero ↦ list_traced X T more shows size xs u | suc r ↦ u ]).answer.number ≡ 0
+          → (elim m as (λ (y : ℕ). Explaining M) [ zero ↦ list_traced X T more shows size xs u | suc r ↦ u ]).zeroed ≡ true
       by zero z q = list_zeroed xs u (single_zeroed x t (inr z))
       by (suc m) z q = absurd (let y : suc m ≡ 0 = sym z ∙ q in omega arith)
 
-  every_zeroed : (S : Sess M) (b : Bool) → (every_noted X T more shows size S b).answer.number ≡ 0 → (every_noted X T more shows size S b).zeroed ≡ true
-  unfolding every_noted
+  every_zeroed : (S : Sess M) (b : Bool) → (every_traced X T more shows size S b).answer.number ≡ 0 → (every_traced X T more shows size S b).zeroed ≡ true
+  unfolding every_traced
   every_zeroed S false q = absurd (let z : ◌≡◌ {A = ℕ} 11 0 = q in omega arith)
   every_zeroed S true q = from_zeroed (T.count - 1) 1 (record { answer = record { sess = S; number = 0 }; entries = []; zeroed = true }) refl
 
@@ -176,15 +176,15 @@ module _ (p modes : ℕ) (s : List ℕ) (n : ℕ) {U : Type 0} (N : Naming U) (u
   reasoned = record {
     by_rules = h;
     one_lines = λ text lent id l q.
-        lines text l (id ∷ []) _ (λ r. single_noted X T r (shows_in D) (length text) id (untold S)) (single X T (length text) S id)
+        lines text l (id ∷ []) _ (λ r. single_traced X T r (shows_in D) (length text) id (untold S)) (single X T (length text) S id)
         (single_fits X T (shows_in D) (machine_numbered N D) (length text) id (untold S)) (h.one text lent id l) (single_grown N D wf.void (length text) id (untold S) still)
         (λ y k. single_zeroed X T always (shows_in D) (length text) id (untold S) (inr y)) q;
     all_lines = λ text lent l q.
-        lines text l (ids_from (T.count - 1) 1) _ (λ r. every_noted X T r (shows_in D) (length text) S S.is_open) (every X T (length text) S S.is_open)
+        lines text l (ids_from (T.count - 1) 1) _ (λ r. every_traced X T r (shows_in D) (length text) S S.is_open) (every X T (length text) S S.is_open)
         (every_fits X T (shows_in D) (machine_numbered N D) (length text) S S.is_open) (h.all text lent l) (every_grown N D wf.void (length text) S still S.is_open)
         (λ y k. every_zeroed X T always (shows_in D) (length text) S S.is_open y) q;
     list_lines = λ text lent ids l q.
-        lines text l (ids_in ids) _ (λ r. list_noted X T r (shows_in D) (length text) (ids_in ids) (untold S)) (list_plain X T (length text) (ids_in ids) S)
+        lines text l (ids_in ids) _ (λ r. list_traced X T r (shows_in D) (length text) (ids_in ids) (untold S)) (list_plain X T (length text) (ids_in ids) S)
         (list_fits X T (shows_in D) (machine_numbered N D) (length text) (ids_in ids) (untold S) refl) (h.list text lent ids l) (list_grown N D wf.void (length text) (ids_in ids) (untold S) still)
         (λ y k. list_accepted X T always (shows_in D) (length text) (ids_in ids) (untold S) y k) q;
   }

@@ -9,16 +9,17 @@ use Rattle.spec_c_dumper.specs.rules.Names.{Naming, naming}
 use Rattle.spec_c_dumper.specs.rules.Machine.{Req}
 use Rattle.spec_c_dumper.specs.needs.Session.{dumped, opened_by, no_names}
 use Rattle.spec_c_dumper.specs.alignment_once.Once.{Table, table_keep, blank, members_to}
-use Rattle.spec_c_dumper.specs.alignment_once.Writers.{after_once, dumped_once, Minded, minded, minded_asks, no_visits}
+use Rattle.spec_c_dumper.specs.alignment_once.Writers.{after_once, dumped_once, Remembering, remembering_names, remembering_asks, no_visits}
 use Rattle.spec_opening.specs.Described.{table_in}
 use Rattle.claims.specs.Calls.{Calls, After}
 use Rattle.claims.specs.Demands.{InBothModes}
 
 -- names, memory and visits after the requests, "in a definition of the remembering way": over a table, with a way of keeping names; before
 -- the first request nothing is remembered and no visit is counted
-abbrev pub remembering : {U : Type 0} → Btf → Naming U → U → List Req → Minded U Table
+abbrev pub remembering : {U : Type 0} → Btf → Naming U → U → List Req → Remembering U Table
 remembering B N u rs =
-    (after_once (minded_asks (table_keep B.type_cnt) B) (minded N) B rs (opened_by (minded N) B (no_visits u blank))).mach.known.names
+    (after_once (remembering_asks (table_keep B.type_cnt) B) (remembering_names N) B rs
+    (opened_by (remembering_names N) B (no_visits u blank))).mach.known.names
 
 -- visits: those that the record keeps; pointer size, modes, section and length of the work, as at opening
 module _ {R C : Type 0} (K : Calls R C) (visits : C → ℕ) (pointer modes : ℕ) (s : List ℕ) (n : ℕ) where
@@ -50,7 +51,8 @@ module _ {R C : Type 0} (K : Calls R C) (visits : C → ℕ) (pointer modes : �
     -- "and are at most types plus members"
     pub at_most : visits c ≤ B.type_cnt + members_to B B.type_cnt
     -- "Answers and refusals, 12 by the depth of the plain way included, must equal those of the plain way": numbers, lengths and text
-    pub answers : dumped_once (minded_asks (table_keep B.type_cnt) B) (minded N) B [] rs (opened_by (minded N) B (no_visits u blank))
+    pub answers : dumped_once (remembering_asks (table_keep B.type_cnt) B) (remembering_names N) B [] rs
+        (opened_by (remembering_names N) B (no_visits u blank))
         ≡ dumped N B [] rs (opened_by N B u)
 
   -- THE CLAIM, of all pointer sizes, modes, sections of bytes and lengths of the work

@@ -5,13 +5,14 @@ use Rattle.spec_c_dumper.specs.rules.Writer.{got}
 use Rattle.spec_session.specs.declared.session.Session.{Session}
 use Rattle.spec_session.specs.session.Answers.{number_of, value_of}
 use Rattle.session_field_at_bit.specs.step.Path.{field_path}
-use Rattle.session_field_at_bit.specs.field.Leads.{Leads}
+use Rattle.session_field_at_bit.specs.field.PathFrom.{PathFrom}
 use Rattle.session_field_at_bit.specs.field.Calls.{field_call}
 
 pub record Request11 : Type 0 where
   -- "return the path of members and array places [..] to the innermost plain member or bit field that covers it", and there is no other
-  pub leads : (B : Btf) (id bit : ℕ) (p : List ℕ) → field_path B id bit ≡ got p → Leads B id bit p × ((0 < length p) × (length p ≤ 512))
-  pub unique : (B : Btf) (id bit : ℕ) (p q : List ℕ) → Leads B id bit p → Leads B id bit q → p ≡ q
+  pub is_path : (B : Btf) (id bit : ℕ) (p : List ℕ) → field_path B id bit ≡ got p
+      → PathFrom B id bit p × ((0 < length p) × (length p ≤ 512))
+  pub unique : (B : Btf) (id bit : ℕ) (p q : List ℕ) → PathFrom B id bit p → PathFrom B id bit q → p ≡ q
   -- "every refusal returns length 0 and leaves path, text and session untouched"
   pub refused : (s : Session) (section work path : List ℕ) (id bit : ℕ) → (number_of (field_call s section work path id bit).answer ≡ 0 → ⊥)
       → ((field_call s section work path id bit).path ≡ path) × (value_of (field_call s section work path id bit).answer ≡ 0)

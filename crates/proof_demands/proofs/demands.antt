@@ -3,8 +3,8 @@ pub mod Named
 pub mod Sound
 pub mod Claims
 pub mod Steps
-pub mod Few
-pub mod Minded
+pub mod Counts
+pub mod OpenedMemory
 pub mod Began
 pub mod Lines
 pub mod Start

@@ -1,5 +1,5 @@
 pub mod Table
 pub mod Claims
-pub mod Sheet
+pub mod Representation
 pub mod Session
 pub mod Demands

@@ -1,4 +1,4 @@
-pub mod few_names
+pub mod name_counts
 pub mod names_apart
 pub mod no_collision
 pub mod none_passed

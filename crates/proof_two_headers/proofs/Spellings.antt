@@ -21,7 +21,7 @@ use Rattle.spec_c_dumper.specs.needs.Lists.{afresh}
 use Rattle.spec_c_dumper.proofs.rules.Names.{spelled_later, spelled_low, count_here}
 use Rattle.proof_two_headers.specs.Shared.{Ledger, Who, of_type, of_value, Given, Held, over, giving, number_of, taking, passing, type_shared, value_shared, type_passes}
 use Rattle.proof_two_headers.specs.Calls.{Side, kernel, module', Call, opens, asks, World, part_of, lent, open_number, opening, asking, called, calls, new_world}
-use Rattle.proof_two_headers.specs.Spellings.{given_in, spelling, SameName, Otherwise, AllOtherwise, Got, Few, space_of, version_in, Unlike, Claim}
+use Rattle.proof_two_headers.specs.Spellings.{given_in, spelling, SameName, Otherwise, AllOtherwise, Got, FewHolders, space_of, version_in, Unlike, Claim}
 use Rattle.proof_two_headers.proofs.Asks.{Own, table_own}
 use Rattle.proof_two_headers.proofs.Keeps.{answer_keeps}
 use Rattle.proof_two_headers.proofs.Accounts.{grows, taking_entries}
@@ -265,7 +265,7 @@ new_good B words = record {
 
 -- ---- from numbers to spellings
 
-module _ (L : Ledger) (few : Few L) where
+module _ (L : Ledger) (few : FewHolders L) where
   apart : (a b : Given) → Bound L.entries a → Bound L.entries b → Clash a b → SameName a b → spelling a ≡ spelling b → ⊥
   apart a b h k c q e = top h.1 (few a.space a.name) (c q (one_number a.name a.number b.number h.0 k.0
       (most h.1 (few a.space a.name)) (most k.1 (few b.space b.name)) (e ∙ ap (λ (n : Name). spelled n b.number) (sym q.same_name))))
@@ -295,7 +295,7 @@ two_in (x ∷ l) h a b i j n s t = ⊎_elim
     (λ p. ⊎_elim (λ q. n (p ∙ sym q)) (λ q. subst (λ (z : Given). Otherwise z l) (sym p) h.0 b q s t) (Memᴰ.cases_cons j))
     (λ p. ⊎_elim (λ q. subst (λ (z : Given). Otherwise z l) (sym q) h.0 a p (same_flip a b s) (sym t)) (λ q. two_in l h.1 a b p q n s t) (Memᴰ.cases_cons j)) (Memᴰ.cases_cons i)
 
-module _ (B : Side → Btf) (W : World) (few : Few W.ledger) (g : Good B W) where
+module _ (B : Side → Btf) (W : World) (few : FewHolders W.ledger) (g : Good B W) where
   own_of : (d : Side) → AllOtherwise (given_in W d)
   own_of kernel = all_apart W.ledger few (given_in W kernel) g.bound₁ g.own₁
   own_of module' = all_apart W.ledger few (given_in W module') g.bound₂ g.own₂

@@ -62,8 +62,8 @@ abbrev pub version_in : World → Side → ℕ → ℕ
 version_in W d id = get_or (part_of W d).sess.mach.known.names.versions id 0
 
 -- no text of 2^30 bytes prints so many that the largest number is met
-abbrev pub Few : Ledger → Type 0
-Few L = (space : Space) (name : Name) → holders L.entries space name < 4294967295
+abbrev pub FewHolders : Ledger → Type 0
+FewHolders L = (space : Space) (name : Name) → holders L.entries space name < 4294967295
 
 pub record Unlike (B : Side → Btf) (W : World) : Type 0 where
   -- in one header
@@ -80,4 +80,6 @@ pub record Unlike (B : Side → Btf) (W : World) : Type 0 where
 
 -- THE CLAIM, of every two tables, every ledger's length, and every list of calls
 abbrev pub Claim : Type 0
-Claim = (B : Side → Btf) (words : ℕ) (cs : List Call) → Few (calls B (new_world words) cs).ledger → Unlike B (calls B (new_world words) cs)
+Claim =
+    (B : Side → Btf) (words : ℕ) (cs : List Call) → FewHolders (calls B (new_world words) cs).ledger
+    → Unlike B (calls B (new_world words) cs)

@@ -3,5 +3,5 @@
 -- the words of the request. Code: what the code's answers say. Samples: a small table.
 pub mod Code
 pub mod Calls
-pub mod Leads
+pub mod PathFrom
 pub mod Samples

@@ -5,7 +5,7 @@ ghost use Rattle.spec_type_table.specs.Table.{btf_of, type_of};
 ghost use Rattle.spec_session.specs.session.Answers.{alone};
 ghost use Rattle.session_field_at_bit.specs.step.Path.{shape_of, is_composite, behind, path_from, field_path};
 ghost use Rattle.session_field_at_bit.specs.field.Calls.{found_of, lent_path, field_call};
-ghost use Rattle.session_field_at_bit.specs.step.Code.{shape_is, asked, led_to};
+ghost use Rattle.session_field_at_bit.specs.step.Code.{shape_is, asked, path_told};
 ghost use Rattle.session_field_at_bit.specs.field.Code.{written, answer_to};
 
 use crate::step::{Shape, Step, next_step, put_entry};
@@ -55,7 +55,7 @@ fn behind(b: &Table, work: &[u8], id: u32, left: u32) -> Shape
 // that a refusal leaves the lent path as it was.
 fn walk(b: &Table, work: &[u8], path: &mut [u8], id: u32, bit: u32, n: u32) -> Result<u32, Refusal>
     requires { n ≤ 512 }
-    ensures { led_to (asked result) path.new
+    ensures { path_told (asked result) path.new
         ≡ written path.old n (path_from (512 - n) (btf_of b.now.head b.now.section.now work.now) id bit) }
 {
     let shape = behind(b, work, id, limit::MOST_CALLS);

@@ -4,13 +4,13 @@
 ghost use Rattle.std.specs.Prelude.{◌+◌, ◌*◌, ◌≡◌, take, None};
 ghost use Rattle.spec_c_dumper.specs.origins.Causes.{up_to, entries_in};
 ghost use Rattle.spec_session.specs.session.Turns.{visits_in};
-ghost use Rattle.c_dumper_dependency_order.specs.leaders.Leads.{lead_words};
-ghost use Rattle.c_dumper_emit.specs.entries.Noted.{entries_of};
+ghost use Rattle.c_dumper_dependency_order.specs.leaders.Leaders.{leader_words};
+ghost use Rattle.c_dumper_emit.specs.entries.Traced.{entries_of};
 ghost use Rattle.session_requests.specs.options.Requests.{stage_of, Fits, Ready, requested_with, idle_after};
 
 use crate::call::Requests;
 use crate::options::{Counted, Options, Progress};
-use c_dumper_dependency_order::leaders::Lead;
+use c_dumper_dependency_order::leaders::Leader;
 use c_dumper_dependency_order::order_type::Orderer;
 use c_dumper_dependency_order::ways::count;
 use c_dumper_emit::dump_type::{Request, dump_type, is_idle};
@@ -27,18 +27,19 @@ impl Requests<'_> {
         work: &mut [u8],
         text: &mut [u8],
         list: &mut [u8],
-        leads: &mut [Lead],
+        leaders: &mut [Leader],
         p: Progress,
         id: u32,
         turn: u32,
     ) -> Progress
-        requires { Fits self.now.options p text.old list.old × Ready self.now.options turn (lead_words leads.old) }
+        requires { Fits self.now.options p text.old list.old × Ready self.now.options turn (leader_words leaders.old) }
         ensures { (stage_of result work.new text.new list.new
             ≡ requested_with self.now.options (up_to (entries_in list.old)) self.now.table.head self.now.table.section.now id
             (entries_of p.count list.old) p.of.len p.of.visits work.old text.old p.made)
             × Fits self.now.options result text.new list.new
             × (take (p.count * 12) list.new ≡ take (p.count * 12) list.old)
-            × (result.of.stop ≡ None → (result.of.visits ≡ visits_in work.new) × Ready self.now.options (turn + 1) (lead_words leads.new)) }
+            × (result.of.stop ≡ None → (result.of.visits ≡ visits_in work.new)
+            × Ready self.now.options (turn + 1) (leader_words leaders.new)) }
     {
         let len = p.of.len;
         let from = len as usize;
@@ -59,7 +60,7 @@ impl Requests<'_> {
             work,
             &mut text[from..to],
             &mut list[entries..],
-            leads,
+            leaders,
             start,
             q,
             p.made,
@@ -84,22 +85,23 @@ impl Requests<'_> {
         work: &mut [u8],
         text: &mut [u8],
         list: &mut [u8],
-        leads: &mut [Lead],
+        leaders: &mut [Leader],
         p: Progress,
         id: u32,
     ) -> Progress
-        requires { Fits self.now.options p text.old list.old × Ready self.now.options id (lead_words leads.old)
+        requires { Fits self.now.options p text.old list.old × Ready self.now.options id (leader_words leaders.old)
             × (p.of.visits ≡ visits_in work.old) }
         ensures { (stage_of result work.new text.new list.new
             ≡ requested_with self.now.options (up_to (entries_in list.old)) self.now.table.head self.now.table.section.now id
             (entries_of p.count list.old) p.of.len (visits_in work.old) work.old text.old p.made)
             × Fits self.now.options result text.new list.new
-            × (result.of.stop ≡ None → (result.of.visits ≡ visits_in work.new) × Ready self.now.options (id + 1) (lead_words leads.new)) }
+            × (result.of.stop ≡ None → (result.of.visits ≡ visits_in work.new)
+            × Ready self.now.options (id + 1) (leader_words leaders.new)) }
     {
         if is_idle(&self.table, work, id) {
             return pass_idle(p, self.options);
         }
-        self.dump_one(work, text, list, leads, p, id, id)
+        self.dump_one(work, text, list, leaders, p, id, id)
     }
 }
 

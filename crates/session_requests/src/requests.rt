@@ -4,7 +4,7 @@ ghost use Rattle.std.specs.Prelude.{◌+◌, ◌*◌, ◌-◌, ◌≤◌, true, 
 ghost use Rattle.spec_c_dumper.specs.origins.Causes.{up_to, entries_in};
 ghost use Rattle.spec_session.specs.session.Turns.{is_current, table_for, refused_turn};
 ghost use Rattle.spec_session.specs.calls.Lists.{ids_in};
-ghost use Rattle.c_dumper_dependency_order.specs.leaders.Leads.{lead_words};
+ghost use Rattle.c_dumper_dependency_order.specs.leaders.Leaders.{leader_words};
 ghost use Rattle.session_requests.specs.options.Options.{is_listed};
 ghost use Rattle.session_requests.specs.declared.options.Options.TheVariants.{Listed};
 ghost use Rattle.session_requests.specs.options.Requests.{stage_of, Ready, requested_from_with};
@@ -19,7 +19,7 @@ use base_bytes::refusal::Refusal;
 use base_bytes::word::get_word;
 use btf_open_causes::header::btf_of;
 use btf_type_table::table::Table;
-use c_dumper_dependency_order::leaders::Lead;
+use c_dumper_dependency_order::leaders::Leader;
 use c_dumper_emit::entries::ENTRY_BYTES;
 use session_record::arrival::{clear_after, count_of, settle_list};
 use session_record::settle::{clear_from, is_current, refused, settle, stays_open, visits_in};
@@ -82,10 +82,10 @@ impl Requests<'_> {
         work: &mut [u8],
         text: &mut [u8],
         list: &mut [u8],
-        leads: &mut [Lead],
+        leaders: &mut [Leader],
         len: u32,
     ) -> Progress
-        requires { (len ≤ length text.old) × Ready self.now.options 1 (lead_words leads.old) }
+        requires { (len ≤ length text.old) × Ready self.now.options 1 (leader_words leaders.old) }
         ensures { (stage_of result work.new text.new list.new
             ≡ requested_from_with self.now.options (up_to (entries_in list.old)) self.now.table.head self.now.table.section.now
             (self.now.table.head.types - 1) 1 [] len work.old text.old 0) × (result.count ≤ entries_in list.old) }
@@ -93,7 +93,7 @@ impl Requests<'_> {
         let n = self.table.head.types;
         let mut r = none_yet(len, visits_in(work));
         for id in 1..n {
-            r = self.dump_next(work, text, list, leads, r, id);
+            r = self.dump_next(work, text, list, leaders, r, id);
             if r.of.stop.is_some() {
                 return r;
             }
@@ -109,12 +109,12 @@ impl Requests<'_> {
         work: &mut [u8],
         text: &mut [u8],
         list: &mut [u8],
-        leads: &mut [Lead],
+        leaders: &mut [Leader],
         ids: &[u8],
     ) -> Tallied
         requires { (self.now.table.head ≡ table_for s self.now.table.section.now)
             × (is_current s (length self.now.table.section.now) (length work.old) (length text.old) ≡ true)
-            × Ready self.now.options 1 (lead_words leads.old) }
+            × Ready self.now.options 1 (leader_words leaders.old) }
         ensures { (end_with s result work.new text.new list.new
             ≡ list_call_with self.now.options s self.now.table.section.now work.old text.old (ids_in ids.now) list.old)
             × (result.count ≤ entries_in list.old) }
@@ -126,7 +126,7 @@ impl Requests<'_> {
             if s.types <= id {
                 return tally_of(unknown(r), k);
             }
-            r = self.dump_one(work, text, list, leads, r, id, k + 1);
+            r = self.dump_one(work, text, list, leaders, r, id, k + 1);
             if r.of.stop.is_some() {
                 return tally_of(r, k);
             }
@@ -193,10 +193,10 @@ impl<'a> Call<'a> {
         work: &mut [u8],
         text: &mut [u8],
         list: &mut [u8],
-        leads: &mut [Lead],
+        leaders: &mut [Leader],
         id: u32,
     ) -> Ended
-        requires { Ready self.now.options 1 (lead_words leads.old) }
+        requires { Ready self.now.options 1 (leader_words leaders.old) }
         ensures { ended_of result work.new text.new list.new
             ≡ type_call_with self.now.options self.now.session self.now.section.now work.old text.old id list.old 0 }
     {
@@ -209,7 +209,7 @@ impl<'a> Call<'a> {
         }
         let start = none_yet(s.text_len, s.visits);
         let requests = self.requests();
-        let r = requests.dump_one(work, text, list, leads, start, id, 1);
+        let r = requests.dump_one(work, text, list, leaders, start, id, 1);
         end(s, work, text, list, r)
     }
 
@@ -218,9 +218,9 @@ impl<'a> Call<'a> {
         work: &mut [u8],
         text: &mut [u8],
         list: &mut [u8],
-        leads: &mut [Lead],
+        leaders: &mut [Leader],
     ) -> Ended
-        requires { Ready self.now.options 1 (lead_words leads.old) }
+        requires { Ready self.now.options 1 (leader_words leaders.old) }
         ensures { ended_of result work.new text.new list.new
             ≡ types_call_with self.now.options self.now.session self.now.section.now work.old text.old list.old }
     {
@@ -229,7 +229,7 @@ impl<'a> Call<'a> {
             return unchanged(s, Refusal::SessionClosed, s.text_len);
         }
         let requests = self.requests();
-        let r = requests.dump_all(work, text, list, leads, s.text_len);
+        let r = requests.dump_all(work, text, list, leaders, s.text_len);
         end(s, work, text, list, r)
     }
 
@@ -238,10 +238,10 @@ impl<'a> Call<'a> {
         work: &mut [u8],
         text: &mut [u8],
         list: &mut [u8],
-        leads: &mut [Lead],
+        leaders: &mut [Leader],
         ids: &[u8],
     ) -> Ended
-        requires { Ready self.now.options 1 (lead_words leads.old) }
+        requires { Ready self.now.options 1 (leader_words leaders.old) }
         ensures { ended_of result work.new text.new list.new
             ≡ list_call_with self.now.options self.now.session self.now.section.now work.old text.old (ids_in ids.now) list.old }
     {
@@ -256,7 +256,7 @@ impl<'a> Call<'a> {
             return unchanged(s, Refusal::SessionClosed, 0);
         }
         let requests = self.requests();
-        let r = requests.dump_ids(s, work, text, list, leads, ids);
+        let r = requests.dump_ids(s, work, text, list, leaders, ids);
         let turn = settle_list(s, work, text, r.of);
         clear_list(list, r);
         Counted {
@@ -272,17 +272,17 @@ impl<'a> Call<'a> {
         work: &mut [u8],
         text: &mut [u8],
         list: &mut [u8],
-        leads: &mut [Lead],
+        leaders: &mut [Leader],
         wanted: Wanted,
     ) -> Ended
-        requires { Ready self.now.options 1 (lead_words leads.old) }
+        requires { Ready self.now.options 1 (leader_words leaders.old) }
         ensures { ended_of result work.new text.new list.new
             ≡ call_with self.now.options self.now.session self.now.section.now work.old text.old wanted.entry list.old }
     {
         match wanted {
-            Wanted::One(id) => self.type_with(work, text, list, leads, id),
-            Wanted::All => self.types_with(work, text, list, leads),
-            Wanted::Ids(ids) => self.list_with(work, text, list, leads, ids),
+            Wanted::One(id) => self.type_with(work, text, list, leaders, id),
+            Wanted::All => self.types_with(work, text, list, leaders),
+            Wanted::Ids(ids) => self.list_with(work, text, list, leaders, ids),
         }
     }
 
@@ -299,8 +299,8 @@ impl<'a> Call<'a> {
         ensures { ended_of result work.new text.new list.new
             ≡ call_with self.now.options self.now.session self.now.section.now work.old text.old wanted.entry list.old }
     {
-        let mut leads = [Lead::NONE; limit::TYPES_LEN];
-        self.request_with(work, text, list, &mut leads, wanted)
+        let mut leaders = [Leader::NONE; limit::TYPES_LEN];
+        self.request_with(work, text, list, &mut leaders, wanted)
     }
 
     // The call. Without `Listed` the list is only zeroed.
@@ -317,7 +317,7 @@ impl<'a> Call<'a> {
         match self.options {
             Options::Listed => self.request_listed(work, text, list, wanted),
             Options::Plain | Options::Within(_) => {
-                self.request_with(work, text, list, &mut [Lead::NONE; 0], wanted)
+                self.request_with(work, text, list, &mut [Leader::NONE; 0], wanted)
             }
         }
     }

@@ -21,7 +21,7 @@ use Rattle.spec_c_dumper.specs.needs.Session.{Known, fitting, line_of, machine_b
 use Rattle.spec_c_dumper.proofs.needs.Lists.{Sized}
 use Rattle.spec_c_dumper.proofs.needs.Session.{machine_lawful}
 use Rattle.spec_c_dumper.proofs.needs.Alike.{AlikeMachine, BothOut, both_wrote, both_stuck, BothSess, run_alike}
-use Rattle.spec_declared_first.specs.Notes.{Asked, noting, Note, Seen, noted, unasked, noted_machine, noted_opened, notes_by, pieces_in}
+use Rattle.spec_declared_first.specs.Notes.{Asked, noting, Note, Seen, with_note, unasked, notes_machine, notes_opened, notes_by, pieces_in}
 
 pieces_append : (a b : List Note) → pieces_in (a ++ b) ≡ pieces_in a ++ pieces_in b
 pieces_append [] b = refl
@@ -47,7 +47,7 @@ module _ {U : Type 0} (N : Naming U) (B : Btf) where
     pub sized : Sized B.type_cnt t
 
   module _ (mk : List ℕ → Piece) (x : ℕ) (s : Ls (Seen U)) (e : pieces_in s.known.notes ≡ s.pieces) (z : Sized B.type_cnt (forget s)) where
-    fitting_near : (len : ℕ) (a : Asked U) (u : U) → a.names ≡ u → (t : Text) → BothOut Near (put_line mk s (noted mk x s.known (fitting len a t))) (put_line mk (forget s) (fitting len u t))
+    fitting_near : (len : ℕ) (a : Asked U) (u : U) → a.names ≡ u → (t : Text) → BothOut Near (put_line mk s (with_note mk x s.known (fitting len a t))) (put_line mk (forget s) (fitting len u t))
     unfolding fitting
     fitting_near len a u r (whole b) = both_wrote _ _ (record {
       rest = ap {B = Ls (Known U)} (λ (k : U). record { marks = s.marks; olist = s.olist; emits = s.emits; fwds = s.fwds; room = s.room; known = record { names = k; text_len = len + length b }; pieces = s.pieces ++ (mk b ∷ []) }) r;
@@ -56,30 +56,30 @@ module _ {U : Type 0} (N : Naming U) (B : Btf) where
     })
     fitting_near len a u r (cut b c) = both_stuck c
 
-    said_near : (room len : ℕ) (s₁ : Said (Asked U)) (s₂ : Said U) → RelSaid SameNames s₁ s₂ → BothOut Near (put_line mk s (noted mk x s.known (line_of room len s₁))) (put_line mk (forget s) (line_of room len s₂))
+    said_near : (room len : ℕ) (s₁ : Said (Asked U)) (s₂ : Said U) → RelSaid SameNames s₁ s₂ → BothOut Near (put_line mk s (with_note mk x s.known (line_of room len s₁))) (put_line mk (forget s) (line_of room len s₂))
     unfolding line_of
     said_near room len _ _ (same a u t r) = go (leb (len + length (bytes t)) (smaller room 1073741824))
       where
-        go : (b : Bool) → BothOut Near (put_line mk s (noted mk x s.known (elim b [ true ↦ fitting len a t | false ↦ cannot 17 ]))) (put_line mk (forget s) (elim b [ true ↦ fitting len u t | false ↦ cannot 17 ]))
+        go : (b : Bool) → BothOut Near (put_line mk s (with_note mk x s.known (elim b [ true ↦ fitting len a t | false ↦ cannot 17 ]))) (put_line mk (forget s) (elim b [ true ↦ fitting len u t | false ↦ cannot 17 ]))
         go true = fitting_near len a u r t
         go false = both_stuck 17
 
-  fwd_near : (s : Ls (Seen U)) (t : Ls (Known U)) → Near s t → (x : ℕ) → x < B.type_cnt → BothOut Near ((noted_machine N B).fwd_line s x) ((machine_by N B).fwd_line t x)
+  fwd_near : (s : Ls (Seen U)) (t : Ls (Known U)) → Near s t → (x : ℕ) → x < B.type_cnt → BothOut Near ((notes_machine N B).fwd_line s x) ((machine_by N B).fwd_line t x)
   fwd_near s t h x l =
-      subst (λ (k : Ls (Known U)). BothOut Near ((noted_machine N B).fwd_line s x) ((machine_by N B).fwd_line k x)) h.rest
+      subst (λ (k : Ls (Known U)). BothOut Near ((notes_machine N B).fwd_line s x) ((machine_by N B).fwd_line k x)) h.rest
       (said_near other x s h.each (subst (Sized B.type_cnt) (sym h.rest) h.sized) s.room s.known.known.text_len
       (forward (noting N) B x (B.type_by_id x) (unasked s.known)) (forward N B x (B.type_by_id x) s.known.known.names)
       (rel_forward SameNames any_name any_value (noting N) N same_naming B (λ y. type_fits y (B.type_by_id y)) x (B.type_by_id x) (type_fits x (B.type_by_id x)) (unasked s.known) s.known.known.names refl))
 
   def_near : (mk : List ℕ → Piece) (x : ℕ) (s : Ls (Seen U)) (t : Ls (Known U)) → Near s t
-      → BothOut Near (put_line mk s (noted mk x s.known (line_of s.room s.known.known.text_len (definition (noting N) B x (B.type_by_id x) (unasked s.known))))) (put_line mk t (line_of t.room t.known.text_len (definition N B x (B.type_by_id x) t.known.names)))
+      → BothOut Near (put_line mk s (with_note mk x s.known (line_of s.room s.known.known.text_len (definition (noting N) B x (B.type_by_id x) (unasked s.known))))) (put_line mk t (line_of t.room t.known.text_len (definition N B x (B.type_by_id x) t.known.names)))
   def_near mk x s t h =
-      subst (λ (k : Ls (Known U)). BothOut Near (put_line mk s (noted mk x s.known (line_of s.room s.known.known.text_len (definition (noting N) B x (B.type_by_id x) (unasked s.known))))) (put_line mk k (line_of k.room k.known.text_len (definition N B x (B.type_by_id x) k.known.names)))) h.rest
+      subst (λ (k : Ls (Known U)). BothOut Near (put_line mk s (with_note mk x s.known (line_of s.room s.known.known.text_len (definition (noting N) B x (B.type_by_id x) (unasked s.known))))) (put_line mk k (line_of k.room k.known.text_len (definition N B x (B.type_by_id x) k.known.names)))) h.rest
       (said_near mk x s h.each (subst (Sized B.type_cnt) (sym h.rest) h.sized) s.room s.known.known.text_len
       (definition (noting N) B x (B.type_by_id x) (unasked s.known)) (definition N B x (B.type_by_id x) s.known.known.names)
       (rel_definition SameNames any_name any_value (noting N) N same_naming B (λ y. type_fits y (B.type_by_id y)) x (B.type_by_id x) (type_fits x (B.type_by_id x)) (unasked s.known) s.known.known.names refl))
 
-  notes_alike : AlikeMachine (noted_machine N B) (machine_by N B) B.type_cnt (Sized B.type_cnt) Near
+  notes_alike : AlikeMachine (notes_machine N B) (machine_by N B) B.type_cnt (Sized B.type_cnt) Near
   notes_alike = record {
     a_store = record {
       a_good = λ s t h. h.sized;
@@ -120,9 +120,9 @@ module _ {U : Type 0} (N : Naming U) (B : Btf) where
   }
 
   module _ (wf : WF (table_of B)) (u : U) (rs : List Req) where
-    sessions : BothSess Near (run (noted_machine N B) (table_of B) rs (noted_opened N B u)) (run (machine_by N B) (table_of B) rs (opened_by N B u))
+    sessions : BothSess Near (run (notes_machine N B) (table_of B) rs (notes_opened N B u)) (run (machine_by N B) (table_of B) rs (opened_by N B u))
     unfolding afresh
-    sessions = run_alike (noted_machine N B) (machine_by N B) (table_of B) (Sized B.type_cnt) (machine_lawful N B B.type_cnt) wf.below Near notes_alike rs (noted_opened N B u) (opened_by N B u) (record {
+    sessions = run_alike (notes_machine N B) (machine_by N B) (table_of B) (Sized B.type_cnt) (machine_lawful N B B.type_cnt) wf.below Near notes_alike rs (notes_opened N B u) (opened_by N B u) (record {
       same_open = refl;
       same_asked = refl;
       alike = record { rest = refl; each = refl; sized = record { marks_n = length-replicate B.type_cnt new; emits_n = length-replicate B.type_cnt new } };

@@ -6,7 +6,7 @@ pub mod Writers
 pub mod Lines
 pub mod Standing
 pub mod Renamed
-pub mod Noted
+pub mod NotesMachine
 pub mod Session
 pub mod Alike
 pub mod Claims

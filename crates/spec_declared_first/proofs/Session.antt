@@ -14,16 +14,16 @@ use Rattle.spec_c_dumper.specs.needs.Needs.{WF}
 use Rattle.spec_c_dumper.specs.needs.Lists.{Ls, afresh}
 use Rattle.spec_c_dumper.proofs.needs.Ways.{clash_new, clash_busy}
 use Rattle.spec_c_dumper.proofs.origins.Keeps.{Comes, comes, halts}
-use Rattle.spec_declared_first.specs.Notes.{Seen, noted_machine, noted_opened, notes_by}
+use Rattle.spec_declared_first.specs.Notes.{Seen, notes_machine, notes_opened, notes_by}
 use Rattle.spec_declared_first.specs.Declared.{NoBuiltin, DeclaredAbove}
 use Rattle.spec_declared_first.proofs.Ordering.{Met, Gives, gives, refuses, Sorted, none as unsorted, Inv, Post, order_ok}
 use Rattle.spec_declared_first.proofs.Emission.{Top, Listed, emit_list}
 use Rattle.spec_declared_first.proofs.Kept.{Keeping}
-use Rattle.spec_declared_first.proofs.Noted.{Good, Told, Frame, noted_noting, noted_steady, declared_above, none}
+use Rattle.spec_declared_first.proofs.NotesMachine.{Good, Told, Frame, notes_noting, notes_steady, declared_above, none}
 
 module _ {U : Type 0} (N : Naming U) (B : Btf) (nb : NoBuiltin B) (wf : WF (table_of B)) (Sound : U → Type 0) (Holds : U → ℕ → ℕ → Type 0) (keep : Keeping N B.type_cnt Sound Holds) where
   abbrev X : Machine (Ls (Seen U))
-  X = noted_machine N B
+  X = notes_machine N B
 
   abbrev T : Table
   T = table_of B
@@ -35,10 +35,10 @@ module _ {U : Type 0} (N : Naming U) (B : Btf) (nb : NoBuiltin B) (wf : WF (tabl
   Fine s = Good N B nb wf.below Sound Holds keep s
 
   abbrev IsInv : List ℕ → M → Type 0
-  IsInv pre s = Inv X.store T Fine (Frame N B nb wf.below Sound Holds keep) (noted_steady N B nb wf.below Sound Holds keep) wf.below pre s
+  IsInv pre s = Inv X.store T Fine (Frame N B nb wf.below Sound Holds keep) (notes_steady N B nb wf.below Sound Holds keep) wf.below pre s
 
   abbrev IsTop : List ℕ → M → Type 0
-  IsTop l s = Top X T Fine (Told N B nb wf.below Sound Holds keep) (noted_noting N B nb wf.below Sound Holds keep) wf.void wf.below l s
+  IsTop l s = Top X T Fine (Told N B nb wf.below Sound Holds keep) (notes_noting N B nb wf.below Sound Holds keep) wf.void wf.below l s
 
   top_frame : (l : List ℕ) (s s' : M) → Fine s' → Frame N B nb wf.below Sound Holds keep s s' → IsTop l s → IsTop l s'
   top_frame l s s' g f t = record {
@@ -70,7 +70,7 @@ module _ {U : Type 0} (N : Naming U) (B : Btf) (nb : NoBuiltin B) (wf : WF (tabl
   shut_inv S e i = record { good = i.good; whole = i.whole; live = λ h. absurd (true≢false (sym h)) }
 
   emitted_ok : (S : Sess M) (x : ℕ) (i : SInv S) (s : M) → IsInv i.whole s → (r : Out M)
-      → Comes (Listed X T Fine (Told N B nb wf.below Sound Holds keep) (noted_noting N B nb wf.below Sound Holds keep) wf.void wf.below (i.whole ++ X.store.list s) s) r → SInv (emitted X T S x r).sess
+      → Comes (Listed X T Fine (Told N B nb wf.below Sound Holds keep) (notes_noting N B nb wf.below Sound Holds keep) wf.void wf.below (i.whole ++ X.store.list s) s) r → SInv (emitted X T S x r).sess
   unfolding emitted
   emitted_ok S x i s o (wrote m) (comes h) = record {
     good = h.top.held.good;
@@ -80,10 +80,10 @@ module _ {U : Type 0} (N : Naming U) (B : Btf) (nb : NoBuiltin B) (wf : WF (tabl
   emitted_ok S x i s o (stuck e) halts = shut_inv S e i
 
   ordered_ok : (room : ℕ) (S : Sess M) (x : ℕ) (i : SInv S) → IsTop i.whole (X.start room S.mach) → (r : Res M)
-      → Gives (Post X.store T Fine (Frame N B nb wf.below Sound Holds keep) (noted_steady N B nb wf.below Sound Holds keep) wf.below i.whole (X.start room S.mach) x) r → SInv (ordered X T S x r).sess
+      → Gives (Post X.store T Fine (Frame N B nb wf.below Sound Holds keep) (notes_steady N B nb wf.below Sound Holds keep) wf.below i.whole (X.start room S.mach) x) r → SInv (ordered X T S x r).sess
   unfolding ordered
   ordered_ok room S x i t (ok s b) (gives p) = emitted_ok S x i s p.grown.inv (eeach (λ m y. emit X T 512 m y 0) (X.store.list s) s)
-      (emit_list X T Fine (Told N B nb wf.below Sound Holds keep) (noted_noting N B nb wf.below Sound Holds keep) wf.void wf.below 512 (X.store.list s) i.whole s
+      (emit_list X T Fine (Told N B nb wf.below Sound Holds keep) (notes_noting N B nb wf.below Sound Holds keep) wf.void wf.below 512 (X.store.list s) i.whole s
       (top_frame i.whole (X.start room S.mach) s p.grown.inv.fine p.grown.frame t) p.grown.inv.sorted)
   ordered_ok room S x i t (refused e) refuses = shut_inv S e i
 
@@ -94,7 +94,7 @@ module _ {U : Type 0} (N : Naming U) (B : Btf) (nb : NoBuiltin B) (wf : WF (tabl
   gate_ok room S x i true true e f =
       let a = i.live e room in
       ordered_ok room S x i a.1 (ordering X T room S x)
-      (order_ok X.store T Fine (Frame N B nb wf.below Sound Holds keep) (noted_steady N B nb wf.below Sound Holds keep) wf.below i.whole 512 (X.start room S.mach) x false a.0 (ltb→lt x T.count (subst True (sym f) tt)))
+      (order_ok X.store T Fine (Frame N B nb wf.below Sound Holds keep) (notes_steady N B nb wf.below Sound Holds keep) wf.below i.whole 512 (X.start room S.mach) x false a.0 (ltb→lt x T.count (subst True (sym f) tt)))
 
   single_ok : (room : ℕ) (S : Sess M) (x : ℕ) → SInv S → SInv (single X T room S x).sess
   unfolding single
@@ -138,16 +138,16 @@ module _ {U : Type 0} (N : Naming U) (B : Btf) (nb : NoBuiltin B) (wf : WF (tabl
   all_false (suc k) zero = refl
   all_false (suc k) (suc x) = all_false k x
 
-  opened_ok : (u : U) → Sound u → SInv (noted_opened N B u)
+  opened_ok : (u : U) → Sound u → SInv (notes_opened N B u)
   unfolding afresh
   opened_ok u su = record {
     good = g;
     whole = [];
     live = λ h r. (
-      record { fine = start_good r (noted_opened N B u).mach g; closed = λ x e. absurd (clash_new new refl (sym (all_new B.type_cnt x) ∙ e)); sorted = unsorted },
+      record { fine = start_good r (notes_opened N B u).mach g; closed = λ x e. absurd (clash_new new refl (sym (all_new B.type_cnt x) ∙ e)); sorted = unsorted },
       record {
         held = record {
-          good = start_good r (noted_opened N B u).mach g;
+          good = start_good r (notes_opened N B u).mach g;
           fw = λ y e. absurd (true≢false (sym e ∙ all_false B.type_cnt y));
           dn = λ y e. absurd (clash_new new refl (sym (all_new B.type_cnt y) ∙ e));
         };
@@ -157,9 +157,9 @@ module _ {U : Type 0} (N : Naming U) (B : Btf) (nb : NoBuiltin B) (wf : WF (tabl
     );
   }
     where
-      g : Fine (noted_opened N B u).mach
+      g : Fine (notes_opened N B u).mach
       g = record { marks_n = length-replicate B.type_cnt new; emits_n = length-replicate B.type_cnt new; fwds_n = length-replicate B.type_cnt false; orderly = none; sound = su; held = λ q m i. absurd (Memᴰ.not-nil i) }
 
   -- with any way of keeping names that keeps a type's name: every list of requests, every room
   pub notes_declared : (u : U) → Sound u → (rs : List Req) → DeclaredAbove B (notes_by N B u rs)
-  notes_declared u su rs = declared_above B (notes_by N B u rs) (run_ok rs (noted_opened N B u) (opened_ok u su)).good.orderly
+  notes_declared u su rs = declared_above B (notes_by N B u rs) (run_ok rs (notes_opened N B u) (opened_ok u su)).good.orderly

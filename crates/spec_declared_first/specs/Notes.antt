@@ -51,12 +51,12 @@ pub record Seen (U : Type 0) : Type 0 where
   pub notes : List Note
 
 -- the piece of type x goes into the notes
-abbrev pub noted : {U : Type 0} → (List ℕ → Piece) → ℕ → Seen U → Line (Known (Asked U)) → Line (Seen U)
-noted mk x k (says a t) = says (record {
+abbrev pub with_note : {U : Type 0} → (List ℕ → Piece) → ℕ → Seen U → Line (Known (Asked U)) → Line (Seen U)
+with_note mk x k (says a t) = says (record {
   known = record { names = a.names.names; text_len = a.text_len };
   notes = k.notes ++ (record { piece = mk t; id = x; mentions = a.names.mentions } ∷ []);
 }) t
-noted mk x k (cannot e) = cannot e
+with_note mk x k (cannot e) = cannot e
 
 -- at the start of a piece
 abbrev pub unasked : {U : Type 0} → Seen U → Asked U
@@ -64,25 +64,25 @@ unasked k = record { names = k.known.names; mentions = [] }
 
 -- with any way of keeping names: the lines, the machine and the opened session of crates/spec_c_dumper/specs/needs/Session, with notes
 module _ {U : Type 0} (N : Naming U) (B : Btf) where
-  abbrev pub noted_lines : Lines (Seen U)
-  noted_lines = record {
-    fwd = λ room k id. noted other id k (line_of room k.known.text_len (forward (noting N) B id (B.type_by_id id) (unasked k)));
-    alias' = λ room k id. noted other id k (line_of room k.known.text_len (forward (noting N) B id (B.type_by_id id) (unasked k)));
-    leaf' = λ room k id. noted other id k (line_of room k.known.text_len (definition (noting N) B id (B.type_by_id id) (unasked k)));
+  abbrev pub notes_lines : Lines (Seen U)
+  notes_lines = record {
+    fwd = λ room k id. with_note other id k (line_of room k.known.text_len (forward (noting N) B id (B.type_by_id id) (unasked k)));
+    alias' = λ room k id. with_note other id k (line_of room k.known.text_len (forward (noting N) B id (B.type_by_id id) (unasked k)));
+    leaf' = λ room k id. with_note other id k (line_of room k.known.text_len (definition (noting N) B id (B.type_by_id id) (unasked k)));
     body' =
-        λ room k id. noted (defines id) id k (line_of room k.known.text_len (definition (noting N) B id (B.type_by_id id) (unasked k)));
+        λ room k id. with_note (defines id) id k (line_of room k.known.text_len (definition (noting N) B id (B.type_by_id id) (unasked k)));
   }
 
-  abbrev pub noted_machine : Machine (Ls (Seen U))
-  noted_machine = list_machine noted_lines
+  abbrev pub notes_machine : Machine (Ls (Seen U))
+  notes_machine = list_machine notes_lines
 
-  abbrev pub noted_opened : U → Sess (Ls (Seen U))
-  noted_opened u =
+  abbrev pub notes_opened : U → Sess (Ls (Seen U))
+  notes_opened u =
       record { is_open = true; mach = afresh B.type_cnt (record { known = record { names = u; text_len = 0 }; notes = [] }); asked = [] }
 
   -- the notes of the accepted requests of a list
   abbrev pub notes_by : U → List Req → List Note
-  notes_by u rs = (run noted_machine (table_of B) rs (noted_opened u)).mach.known.notes
+  notes_by u rs = (run notes_machine (table_of B) rs (notes_opened u)).mach.known.notes
 
 -- with the names of the Rust
 abbrev pub notes_of : Btf → List Req → List Note

@@ -6,7 +6,7 @@ pub mod Entries
 pub mod Types
 pub mod Area
 pub mod ByPlaces
-pub mod Shifted
+pub mod PlacesFrom
 pub mod Section
 pub mod SectionFields
 pub mod SectionTests

@@ -21,7 +21,7 @@ use Rattle.spec_linux_btf.proofs.Words.{bytes_drop}
 use Rattle.spec_linux_btf.proofs.Types.{Sound, sound_parts}
 use Rattle.spec_linux_btf.proofs.Area.{none_passes, passes_in, places_none, places_in, places_out, Met, area_met, read_layout}
 use Rattle.spec_linux_btf.proofs.ByPlaces.{Same, size_same, places_same, places_decode, size_places}
-use Rattle.spec_linux_btf.proofs.Shifted.{type_shift, place_shift}
+use Rattle.spec_linux_btf.proofs.PlacesFrom.{type_shift, place_shift}
 use Rattle.spec_linux_btf.proofs.Section.{area_word_lem}
 
 every_at : (P : ℕ → Type 0) (l : List ℕ) → Every P l → (i : ℕ) → i < length l → P (get_or l i 0)

@@ -18,7 +18,7 @@ use Rattle.spec_linux_btf.specs.Section.{is_big_endian, word_of, str_len_of, typ
 use Rattle.spec_linux_btf.proofs.Words.{word_drop}
 use Rattle.spec_linux_btf.proofs.Area.{leb_same, passes_in, passes_out}
 use Rattle.spec_linux_btf.proofs.ByPlaces.{first, size_places}
-use Rattle.spec_linux_btf.proofs.Shifted.{passes_shift}
+use Rattle.spec_linux_btf.proofs.PlacesFrom.{passes_shift}
 use Rattle.spec_linux_btf.proofs.SectionFields.{from_next, section_inside, area_word, area_words, area_length}
 
 and_same : (a : Bool) {b c : Bool} → (a ≡ true → b ≡ c) → (a && b) ≡ (a && c)

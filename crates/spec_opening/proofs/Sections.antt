@@ -22,7 +22,7 @@ use Rattle.spec_linux_btf.specs.Section.{is_big_endian, word_of, types_at, type_
 use Rattle.spec_linux_btf.proofs.Words.{word_drop}
 use Rattle.spec_linux_btf.proofs.Area.{places_in, places_out, places_none}
 use Rattle.spec_linux_btf.proofs.ByPlaces.{size_places}
-use Rattle.spec_linux_btf.proofs.Shifted.{size_shift, passes_shift}
+use Rattle.spec_linux_btf.proofs.PlacesFrom.{size_shift, passes_shift}
 use Rattle.spec_linux_btf.proofs.SectionFields.{area_word, area_words, area_length}
 use Rattle.spec_linux_btf.proofs.SectionTests.{types_places}
 use Rattle.btf_open_causes.specs.records.Pass.{enums_of, count_p, enums_p, index_p}
@@ -38,32 +38,32 @@ module _ where
 
 -- ---- places counted from the area's start, and from the section's
 module _ (u : ℕ → ℕ) (f : ℕ) where
-  abbrev shifted : ℕ → ℕ
-  shifted q = u (f + q)
+  abbrev from_f : ℕ → ℕ
+  from_f q = u (f + q)
 
-  info_shift : (p : ℕ) → shifted (p + 4) ≡ u (f + p + 4)
+  info_shift : (p : ℕ) → from_f (p + 4) ≡ u (f + p + 4)
   info_shift p = let e : f + (p + 4) ≡ f + p + 4 = omega arith in ap u e
 
-  next_shift : (p : ℕ) → f + (p + size_p shifted p) ≡ f + p + size_p u (f + p)
+  next_shift : (p : ℕ) → f + (p + size_p from_f p) ≡ f + p + size_p u (f + p)
   next_shift p = omega (arith, size_shift u f p)
 
   test_shift : (len p : ℕ) → ltb p len ≡ ltb (f + p) (f + len)
   test_shift len p = ltb_same p len (f + p) (f + len) (λ h. omega arith) (λ h. omega arith)
 
-  pub count_shift : (n len p : ℕ) → count_p shifted n len p ≡ count_p u n (f + len) (f + p)
+  pub count_shift : (n len p : ℕ) → count_p from_f n len p ≡ count_p u n (f + len) (f + p)
   unfolding count_p
   count_shift zero len p = refl
   count_shift (suc n) len p =
-      let r : count_p shifted n len (p + size_p shifted p) ≡ count_p u n (f + len) (f + p + size_p u (f + p)) =
-      count_shift n len (p + size_p shifted p) ∙ ap (count_p u n (f + len)) (next_shift p) in
+      let r : count_p from_f n len (p + size_p from_f p) ≡ count_p u n (f + len) (f + p + size_p u (f + p)) =
+      count_shift n len (p + size_p from_f p) ∙ ap (count_p u n (f + len)) (next_shift p) in
       λ i. elim (test_shift len p i) [ true ↦ suc (r i) | false ↦ 0 ]
 
-  pub enums_shift : (n len p : ℕ) → enums_p shifted n len p ≡ enums_p u n (f + len) (f + p)
+  pub enums_shift : (n len p : ℕ) → enums_p from_f n len p ≡ enums_p u n (f + len) (f + p)
   unfolding enums_p
   enums_shift zero len p = refl
   enums_shift (suc n) len p =
-      let r : enums_p shifted n len (p + size_p shifted p) ≡ enums_p u n (f + len) (f + p + size_p u (f + p)) =
-      enums_shift n len (p + size_p shifted p) ∙ ap (enums_p u n (f + len)) (next_shift p) in
+      let r : enums_p from_f n len (p + size_p from_f p) ≡ enums_p u n (f + len) (f + p + size_p u (f + p)) =
+      enums_shift n len (p + size_p from_f p) ∙ ap (enums_p u n (f + len)) (next_shift p) in
       λ i. elim (test_shift len p i) [ true ↦ enums_of (info_shift p i) + r i | false ↦ 0 ]
 
 -- ---- the same of the area's bytes: how many records, how many enumerators

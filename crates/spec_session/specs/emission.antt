@@ -1,2 +1,2 @@
-pub mod Sheet
+pub mod Slices
 pub mod Tagged

@@ -22,8 +22,8 @@ use Rattle.btf_layout.specs.remembered.Words.{seen_word, decoded, coded, with_vi
 use Rattle.btf_layout.proofs.remembered.Laws.{coded_fits, coded_wide, coded_high, remember_none, remember_past, remember_here}
 
 -- a word of each type
-abbrev pub Roomy : ℕ → List ℕ → Type 0
-Roomy types w = types * 16 ≤ length w / 4
+abbrev pub HoldsTypes : ℕ → List ℕ → Type 0
+HoldsTypes types w = types * 16 ≤ length w / 4
 
 -- what a word holds
 abbrev pub FitsWord : Remembered → Type 0
@@ -113,10 +113,10 @@ module _ (types : ℕ) (B : Rules) where
         by false true = refl
         by false false = get_put_other (with_visits n w) (id * 16 + 15) (d * 16 + 15) (coded s) (λ e. ne (omega arith)) ∙ counted_field n d w
 
-    work_same : FitsWord s → Roomy types w → id < types → decoded (seen_word types u id) ≡ known s
+    work_same : FitsWord s → HoldsTypes types w → id < types → decoded (seen_word types u id) ≡ known s
     work_same f g l = in_room (λ z. omega (arith, coded_is s f, f.1)) l (omega arith)
 
-  pub work_lawful : Lawful K types (Roomy types) FitsWord
+  pub work_lawful : Lawful K types (HoldsTypes types) FitsWord
   unfolding work_keep
   work_lawful = record {
     kept = work_kept;

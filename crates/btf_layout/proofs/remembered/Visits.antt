@@ -25,7 +25,7 @@ use Rattle.spec_bytes.specs.declared.refusal.Refusal.{Refusal}
 use Rattle.btf_layout.specs.declared.remembered.Seen.{Seen as Code}
 use Rattle.btf_layout.specs.remembered.Words.{coded, with_visits, work_keep, once_of, forget, once_with}
 use Rattle.btf_layout.proofs.remembered.Laws.{remember_here}
-use Rattle.btf_layout.proofs.remembered.Lawful.{Roomy, FitsWord, coded_is, work_lawful, tells_fits}
+use Rattle.btf_layout.proofs.remembered.Lawful.{HoldsTypes, FitsWord, coded_is, work_lawful, tells_fits}
 
 answer_memory : (a : Result Code Refusal) (u : List ℕ) → memory_after (once_of a u) ≡ u
 unfolding memory_after once_of
@@ -52,7 +52,7 @@ module _ (types : ℕ) (B : Rules) (small : B.ptr_sz ≤ 15) (below : (x y : ℕ
 
   -- room for the words, and the visits that the memory took
   abbrev pub Counted : List ℕ → Type 0
-  Counted w = Roomy types w × (get_field w 0 2 ≡ paid w)
+  Counted w = HoldsTypes types w × (get_field w 0 2 ≡ paid w)
 
   abbrev pub Holds : Once (List ℕ) Remembered → Type 0
   Holds (found s m k) = Counted m
@@ -118,8 +118,8 @@ module _ (types : ℕ) (B : Rules) (small : B.ptr_sz ≤ 15) (below : (x y : ℕ
   keep_holds left id b m l u (found s m' k') t d = by (K.recall m' id) refl
     where
       by : (q : Known) → K.recall m' id ≡ q → Counted (K.remember id (above s) m')
-      by unknown e = more id l (above s) (tells_fits B small id (above s) (above_tells K B types (Roomy types) FitsWord (work_lawful types B) id s t.0) (omega (arith, t.1))) m' d e
-      by (known x) e = absurd (not_inside K B types (Roomy types) FitsWord (work_lawful types B) id m m' s u t.0 t.2 t.4 x e)
+      by unknown e = more id l (above s) (tells_fits B small id (above s) (above_tells K B types (HoldsTypes types) FitsWord (work_lawful types B) id s t.0) (omega (arith, t.1))) m' d e
+      by (known x) e = absurd (not_inside K B types (HoldsTypes types) FitsWord (work_lawful types B) id m m' s u t.0 t.2 t.4 x e)
 
   pub align_holds : (left id : ℕ) → left ≤ 512 → (m : List ℕ) (k : ℕ) → id < types → Right K B m → Counted m → Holds (align_once K left B id m k)
   unfolding align_once
@@ -131,8 +131,8 @@ module _ (types : ℕ) (B : Rules) (small : B.ptr_sz ≤ 15) (below : (x y : ℕ
       go on (known s) e = taken_holds (suc left) s m k g
       go on unknown e =
           keep_holds left id b m l e (type_once B (λ t m' k'. align_once K left B t m' k') (B.type_by_id id) m (suc k))
-          (type_told K B left (λ t m' k'. align_once K left B t m' k') (λ t m' k'. told K B types (Roomy types) FitsWord (work_lawful types B) left t m' k') (B.type_by_id id) m (suc k) r)
-          (type_holds left (λ t m' k'. align_once K left B t m' k') (λ t m' k'. told K B types (Roomy types) FitsWord (work_lawful types B) left t m' k') on (B.type_by_id id) (below id) m (suc k) r g)
+          (type_told K B left (λ t m' k'. align_once K left B t m' k') (λ t m' k'. told K B types (HoldsTypes types) FitsWord (work_lawful types B) left t m' k') (B.type_by_id id) m (suc k) r)
+          (type_holds left (λ t m' k'. align_once K left B t m' k') (λ t m' k'. told K B types (HoldsTypes types) FitsWord (work_lawful types B) left t m' k') on (B.type_by_id id) (below id) m (suc k) r g)
 
   holds_memory : (x : Once (List ℕ) Remembered) → Holds x → Counted (memory_after x)
   unfolding memory_after
@@ -153,10 +153,10 @@ module _ (types : ℕ) (B : Rules) (small : B.ptr_sz ≤ 15) (below : (x y : ℕ
     unfolding once_with
     says_plain =
         ap (λ (x : Ask Remembered). ask_then x (λ s. got s.align)) (ap ask_once e ∙ forget_answer X)
-        ∙ same_answer K B types (Roomy types) FitsWord (work_lawful types B) left id w 0 right
+        ∙ same_answer K B types (HoldsTypes types) FitsWord (work_lawful types B) left id w 0 right
 
     pub right_after : Right K B u
-    right_after = subst (Right K B) (sym memory_is) (stays_right K B types (Roomy types) FitsWord (work_lawful types B) left id w 0 right).0
+    right_after = subst (Right K B) (sym memory_is) (stays_right K B types (HoldsTypes types) FitsWord (work_lawful types B) left id w 0 right).0
 
     pub counted_after : Counted u
     counted_after = subst Counted (sym memory_is) (holds_memory X (align_holds left id b w 0 l right g))

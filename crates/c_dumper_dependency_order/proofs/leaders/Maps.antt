@@ -8,7 +8,7 @@ use Rattle.spec_c_dumper.proofs.rules.Maps.{tmap, StoreMap, map_visit_within}
 use Rattle.c_dumper_dependency_order.specs.order_state.Work.{Marks, work_store}
 use Rattle.spec_c_dumper.specs.origins.Causes.{is_around}
 use Rattle.c_dumper_dependency_order.specs.declared.leaders.Way.{Way}
-use Rattle.c_dumper_dependency_order.specs.leaders.Leads.{way_for, MarksAndLeaders, kept_store, order_kept}
+use Rattle.c_dumper_dependency_order.specs.leaders.Leaders.{way_for, MarksAndLeaders, kept_store, order_kept}
 
 module _ (v : Way) where
   forget_map : StoreMap (kept_store v) work_store (λ s. s.marks)

@@ -13,7 +13,7 @@ use Rattle.spec_c_dumper.specs.ceiling.Ceiling.{Told, told, halted, then_bind, e
 use Rattle.c_dumper_dependency_order.specs.order_state.Work.{code, work_store}
 use Rattle.spec_c_dumper.specs.origins.Causes.{is_around}
 use Rattle.c_dumper_dependency_order.specs.declared.leaders.Way.{Way}
-use Rattle.c_dumper_dependency_order.specs.leaders.Leads.{way_for, MarksAndLeaders, kept_store, order_kept}
+use Rattle.c_dumper_dependency_order.specs.leaders.Leaders.{way_for, MarksAndLeaders, kept_store, order_kept}
 
 module _ (b : TypeTable) (s : List ℕ) (w : List ℕ) (x v : ℕ) where
   pub table_mark : btf_of b s (put_field w x 1 v) ≡ btf_of b s w

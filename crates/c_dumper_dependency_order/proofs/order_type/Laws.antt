@@ -29,7 +29,7 @@ use Rattle.c_dumper_dependency_order.specs.declared.order_state.Halted.{Halted}
 use Rattle.c_dumper_dependency_order.specs.declared.leaders.Way.{Way}
 use Rattle.c_dumper_dependency_order.specs.order_state.Work.{mark_of, code as code_of, work_store, table_in, strong_of, refused_by}
 use Rattle.c_dumper_dependency_order.specs.begin.Start.{limit_of, with_made, opened_by, is_known, is_passable, met_by}
-use Rattle.c_dumper_dependency_order.specs.leaders.Leads.{inside_of, way_for, note_in, MarksAndLeaders, kept_store, order_kept, kept_of, kept_out, alias_kept, way_kept, fresh_kept, enter_kept}
+use Rattle.c_dumper_dependency_order.specs.leaders.Leaders.{inside_of, way_for, note_in, MarksAndLeaders, kept_store, order_kept, kept_of, kept_out, alias_kept, way_kept, fresh_kept, enter_kept}
 use Rattle.c_dumper_dependency_order.proofs.order_state.Frame.{Stays, on, off, table_mark, table_kept}
 use Rattle.c_dumper_dependency_order.proofs.begin.Laws.{Known, known_yes}
 use Rattle.c_dumper_dependency_order.proofs.order_state.Laws.{get_at, node_at, node_is_lem, named_at, comp_is}
@@ -57,7 +57,7 @@ flagged o w l s r e = ap (λ (x : Order). kept_out (Ok x) w l) e
 pub pushed : (o : Order) (w l : List ℕ) (id : ℕ) (v : Way) (n : ℕ) (w' l' : List ℕ) → l' ≡ note_in v l id → w' ≡ put_field w o.len 11 id → n ≡ one_more o.len
     → kept_out (Ok (record { made = o.made; len = n; is_strong = o.is_strong })) w' l' ≡ told ((kept_store v).push id (kept_of o w l)) o.is_strong o.made
 unfolding kept_out kept_store work_store
-pushed o w l id v n w' l' el ew en = λ i. told (record { marks = record { work = ew i; len = en i }; leads = el i }) o.is_strong o.made
+pushed o w l id v n w' l' el ew en = λ i. told (record { marks = record { work = ew i; len = en i }; leaders = el i }) o.is_strong o.made
 
 -- a mark set
 marked : (o : Order) (w l : List ℕ) (v : Way) (d : Mark) (id : ℕ) (w' : List ℕ) → w' ≡ put_field w id 1 (code_of d) → kept_of o w' l ≡ (kept_store v).mark d id (kept_of o w l)

@@ -21,20 +21,20 @@ use Rattle.spec_type_table.proofs.KindLaws.{type_0}
 use Rattle.spec_type_table.specs.Table.{type_of, btf_of}
 use Rattle.c_dumper_dependency_order.specs.order_state.Work.{Marks, work_store}
 use Rattle.spec_c_dumper.specs.rules.Request.{listed_out}
-use Rattle.spec_session.specs.emission.Sheet.{Sheet, marks_in, with_marks, sheet_store, work_machine, emit_in}
+use Rattle.spec_session.specs.emission.Slices.{Slices, marks_in, with_marks, slices_store, work_machine, emit_in}
 use Rattle.spec_session.specs.metered.Metered.{beside_of, dumped_metered}
 use Rattle.spec_c_dumper.proofs.ceiling.Counted.{tell}
 use Rattle.spec_c_dumper.proofs.rules.Maps.{rmap, tmap}
-use Rattle.spec_c_dumper.specs.origins.Causes.{Entry, led_by, is_around, Led, order_led, listed_entry, Noted, with_entries, up_to, each_listed, shows_in}
+use Rattle.spec_c_dumper.specs.origins.Causes.{Entry, led_by, is_around, WithLeaders, order_with_leaders, listed_entry, Traced, with_entries, up_to, each_listed, shows_in}
 use Rattle.spec_c_dumper.specs.origins.Claims.{is_listed, LedTo}
-use Rattle.spec_session.specs.origin_calls.Bytes.{listed_noted, dumped_noted}
-use Rattle.spec_c_dumper.proofs.origins.Ordering.{Holds, holds, none, AllLed, order_led_lem}
-use Rattle.c_dumper_dependency_order.specs.leaders.Leads.{MarksAndLeaders, led_two, word_at, order_kept, entry_in}
+use Rattle.spec_session.specs.origin_calls.Bytes.{listed_traced, dumped_traced}
+use Rattle.spec_c_dumper.proofs.origins.Ordering.{Holds, holds, none, AllLedTo, order_with_leaders_lem}
+use Rattle.c_dumper_dependency_order.specs.leaders.Leaders.{MarksAndLeaders, leader_on_way, word_at, order_kept, entry_in}
 use Rattle.c_dumper_dependency_order.proofs.leaders.Maps.{forget_kept}
-use Rattle.c_dumper_emit.specs.entries.Noted.{Lent, emit_n}
+use Rattle.c_dumper_emit.specs.entries.Traced.{Lent, emit_n}
 use Rattle.c_dumper_emit.proofs.entries.Lists.{each_lists, each_plain, then_plain}
-use Rattle.c_dumper_emit.specs.dump_type.Kept.{no_leads, Before, way_to, Beside, with_leads, ordered_kept, each_kept, listed_kept, dumped_kept}
-use Rattle.c_dumper_emit.proofs.dump_type.Leaders.{tabled, kept_from, order_kept_lem, beside_led, lift_led, Fits, leader_is, before_none, before_more, tabled_before, entry_is}
+use Rattle.c_dumper_emit.specs.dump_type.Kept.{no_leaders, Before, way_to, Beside, with_leaders, ordered_kept, each_kept, listed_kept, dumped_kept}
+use Rattle.c_dumper_emit.proofs.dump_type.Leaders.{tabled, kept_from, order_kept_lem, beside_leaders, lift_leaders, Fits, leader_is, before_none, before_more, tabled_before, entry_is}
 
 -- no id past the words is a composite, a typedef, an enum or a FWD
 abbrev pub Few : Rules → Type 0
@@ -51,18 +51,18 @@ around_listed (proto ts) e = e
 around_listed (comp ts) e = refl
 
 -- without the leaders
-unfoldable pub forget_leads : Out Beside → Out (Noted Sheet)
-forget_leads (wrote m) = wrote m.noted
-forget_leads (stuck c) = stuck c
+unfoldable pub forget_leaders : Out Beside → Out (Traced Slices)
+forget_leaders (wrote m) = wrote m.traced
+forget_leaders (stuck c) = stuck c
 
-pub forget_with : (l : List ℕ) (o : Out (Noted Sheet)) → forget_leads (with_leads l o) ≡ o
-unfolding forget_leads with_leads
+pub forget_with : (l : List ℕ) (o : Out (Traced Slices)) → forget_leaders (with_leaders l o) ≡ o
+unfolding forget_leaders with_leaders
 forget_with l (wrote m) = refl
 forget_with l (stuck c) = refl
 
-with_is : (l : List ℕ) (o : Out (Noted Sheet)) (k : Beside) → with_leads l o ≡ wrote k → k.leads ≡ l
-unfolding with_leads
-with_is l (wrote m) k e = let z : k ≡ record { noted = m; leads = l } = cc in ap (λ (y : Beside). y.leads) z
+with_is : (l : List ℕ) (o : Out (Traced Slices)) (k : Beside) → with_leaders l o ≡ wrote k → k.leaders ≡ l
+unfolding with_leaders
+with_is l (wrote m) k e = let z : k ≡ record { traced = m; leaders = l } = cc in ap (λ (y : Beside). y.leaders) z
 with_is l (stuck c) k e = absurd (let z : ◌≡◌ {A = ℕ} 0 1 = cc in omega arith)
 
 -- ---- before the first request
@@ -72,22 +72,22 @@ zeros_before n l e x =
     let z : ◌≡◌ {A = ℕ} (get_or (replicate n 0) x 0) 0 = ⊎_elim (λ h. get_or-replicate n x 0 0 h) (λ h. get_or-eq_default (replicate n 0) 0 (subst (λ (i : ℕ). i ≤ x) (sym (length-replicate n 0)) h)) (cases_lt x n) in
     subst (λ (k : ℕ). k / 4294967296 < 1) (sym (ap (λ (u : List ℕ). get_or u x 0) e ∙ z)) (omega arith)
 
-no_leads_lem : no_leads ≡ replicate 262145 0
-unfolding no_leads
+no_leads_lem : no_leaders ≡ replicate 262145 0
+unfolding no_leaders
 no_leads_lem = refl
 
-pub none_before : (l : List ℕ) → l ≡ no_leads → Before 1 l
+pub none_before : (l : List ℕ) → l ≡ no_leaders → Before 1 l
 none_before l e = zeros_before 262145 l (e ∙ no_leads_lem)
 
 -- ---- with a list, and without a ceiling
-module _ (b : TypeTable) (B : Rules) (few : Few B) (room : ℕ) (m : Sheet) (es : List Entry) (id : ℕ) (small : id < 4294967296) (turn : ℕ) (l₀ : List ℕ) (size : length l₀ ≡ 262145) (old : Before turn l₀) (made : ℕ) where
+module _ (b : TypeTable) (B : Rules) (few : Few B) (room : ℕ) (m : Slices) (es : List Entry) (id : ℕ) (small : id < 4294967296) (turn : ℕ) (l₀ : List ℕ) (size : length l₀ ≡ 262145) (old : Before turn l₀) (made : ℕ) where
   abbrev held : Lent
   held = record { lists = true; room = room }
 
   abbrev T : Table
   T = table_of B
 
-  abbrev start : Noted Sheet
+  abbrev start : Traced Slices
   start = record { mach = m; entries = es }
 
   fits : (p : ℕ × ℕ) → LedTo T id p.0 p.1 → Fits 262145 p
@@ -96,90 +96,90 @@ module _ (b : TypeTable) (B : Rules) (few : Few B) (room : ℕ) (m : Sheet) (es 
     leader_fits = ⊎_elim (λ e. subst (λ (k : ℕ). k < 4294967296) (sym e) small) (λ q. let i : p.1 < 262145 = few p.1 (around_listed (T.node p.1) q.1) in omega arith) h.which;
   }
 
-  whys : (led : List (ℕ × ℕ)) → ((p : ℕ × ℕ) → Memᴰ p led → LedTo T id p.0 p.1) → entry_in id turn (tabled turn l₀ led) ≡ listed_entry id led
-  whys led h = entry_is id turn (tabled turn l₀ led) led (λ x. leader_is id turn 262145 led l₀ size (λ p i. fits p (h p i)) x (before_none turn l₀ old x))
+  whys : (leaders : List (ℕ × ℕ)) → ((p : ℕ × ℕ) → Memᴰ p leaders → LedTo T id p.0 p.1) → entry_in id turn (tabled turn l₀ leaders) ≡ listed_entry id leaders
+  whys leaders h = entry_is id turn (tabled turn l₀ leaders) leaders (λ x. leader_is id turn 262145 leaders l₀ size (λ p i. fits p (h p i)) x (before_none turn l₀ old x))
 
-  same : (r : Res (Led Marks)) → Holds (AllLed T id) r → forget_leads (listed_kept b B held id turn start (tell (rmap (kept_from id turn l₀) r) made)) ≡ listed_noted (work_machine b B) T (up_to room) (shows_in B) id es (rmap (beside_led m id) r)
-  unfolding listed_kept listed_noted each_kept work_machine forget_leads tell
+  same : (r : Res (WithLeaders Marks)) → Holds (AllLedTo T id) r → forget_leaders (listed_kept b B held id turn start (tell (rmap (kept_from id turn l₀) r) made)) ≡ listed_traced (work_machine b B) T (up_to room) (shows_in B) id es (rmap (beside_leaders m id) r)
+  unfolding listed_kept listed_traced each_kept work_machine forget_leaders tell
   same (ok s f) (holds h) =
-      forget_with (tabled turn l₀ s.led) (obind (eeach (emit_n b B held (entry_in id turn (tabled turn l₀ s.led)) 512 0) listed after) last)
-      ∙ ap (λ (o : Out (Noted Sheet)). obind o last) (each_lists b B room (entry_in id turn (tabled turn l₀ s.led)) listed after ∙ ap (λ (why : ℕ → Entry). each_listed (work_machine b B) T (up_to room) (shows_in B) why listed after) (whys s.led h))
+      forget_with (tabled turn l₀ s.leaders) (obind (eeach (emit_n b B held (entry_in id turn (tabled turn l₀ s.leaders)) 512 0) listed after) last)
+      ∙ ap (λ (o : Out (Traced Slices)). obind o last) (each_lists b B room (entry_in id turn (tabled turn l₀ s.leaders)) listed after ∙ ap (λ (why : ℕ → Entry). each_listed (work_machine b B) T (up_to room) (shows_in B) why listed after) (whys s.leaders h))
     where
       listed : List ℕ
-      listed = sheet_store.list (with_marks m s.state)
+      listed = slices_store.list (with_marks m s.state)
 
-      after : Noted Sheet
+      after : Traced Slices
       after = record { mach = with_marks m s.state; entries = es }
 
-      last : Noted Sheet → Out (Noted Sheet)
+      last : Traced Slices → Out (Traced Slices)
       last k = wrote (record { mach = (work_machine b B).start 0 k.mach; entries = k.entries })
   same (refused c) none = refl
 
-  later : (r : Res (Led Marks)) → Holds (AllLed T id) r → (k : Beside) → listed_kept b B held id turn start (tell (rmap (kept_from id turn l₀) r) made) ≡ wrote k → Before (turn + 1) k.leads
+  later : (r : Res (WithLeaders Marks)) → Holds (AllLedTo T id) r → (k : Beside) → listed_kept b B held id turn start (tell (rmap (kept_from id turn l₀) r) made) ≡ wrote k → Before (turn + 1) k.leaders
   unfolding listed_kept tell
-  later (ok s f) (holds h) k e = subst (Before (turn + 1)) (sym (with_is (tabled turn l₀ s.led) _ k e)) (tabled_before turn 262145 s.led l₀ size (λ p i. fits p (h p i)) (before_more turn l₀ old))
+  later (ok s f) (holds h) k e = subst (Before (turn + 1)) (sym (with_is (tabled turn l₀ s.leaders) _ k e)) (tabled_before turn 262145 s.leaders l₀ size (λ p i. fits p (h p i)) (before_more turn l₀ old))
   later (refused c) none k e = absurd (let z : ◌≡◌ {A = ℕ} 0 1 = cc in omega arith)
 
-  abbrev began : Led Marks
-  began = record { state = marks_in m; led = [] }
+  abbrev began : WithLeaders Marks
+  began = record { state = marks_in m; leaders = [] }
 
-  two_start : (x : ℕ) → led_two (way_to id turn) x ≡ led_by id [] x
-  unfolding led_two led_by
+  two_start : (x : ℕ) → leader_on_way (way_to id turn) x ≡ led_by id [] x
+  unfolding leader_on_way led_by
   two_start x = go (eqb id x)
     where
       go : (c : Bool) → (elim c [ true ↦ id | false ↦ id ]) ≡ id
       go true = refl
       go false = refl
 
-  kept_is : dumped_kept b B held unbounded (record { noted = start; leads = l₀ }) id turn made ≡ listed_kept b B held id turn start (tell (rmap (kept_from id turn l₀) (order_led work_store id 512 T [] began id false)) made)
+  kept_is : dumped_kept b B held unbounded (record { traced = start; leaders = l₀ }) id turn made ≡ listed_kept b B held id turn start (tell (rmap (kept_from id turn l₀) (order_with_leaders work_store id 512 T [] began id false)) made)
   unfolding dumped_kept ordered_kept tabled
   kept_is = ap (listed_kept b B held id turn start) (order_kept_lem id turn l₀ 512 (way_to id turn) [] refl two_start T began id false made)
 
   -- THE THEOREM: the entries are those of the definitions, and what is noted then was noted before the next turn
-  pub dumped_kept_lem : forget_leads (dumped_kept b B held unbounded (record { noted = start; leads = l₀ }) id turn made) ≡ dumped_noted (work_machine b B) T (up_to room) (shows_in B) m es id
-  unfolding dumped_noted work_machine
+  pub dumped_kept_lem : forget_leaders (dumped_kept b B held unbounded (record { traced = start; leaders = l₀ }) id turn made) ≡ dumped_traced (work_machine b B) T (up_to room) (shows_in B) m es id
+  unfolding dumped_traced work_machine
   dumped_kept_lem =
-      ap forget_leads kept_is
-      ∙ same (order_led work_store id 512 T [] began id false) (order_led_lem work_store T id 512 (marks_in m) false)
-      ∙ ap (listed_noted (work_machine b B) T (up_to room) (shows_in B) id es) (sym (lift_led m id 512 T [] began id false))
+      ap forget_leaders kept_is
+      ∙ same (order_with_leaders work_store id 512 T [] began id false) (order_with_leaders_lem work_store T id 512 (marks_in m) false)
+      ∙ ap (listed_traced (work_machine b B) T (up_to room) (shows_in B) id es) (sym (lift_leaders m id 512 T [] began id false))
 
-  pub kept_before : (k : Beside) → dumped_kept b B held unbounded (record { noted = start; leads = l₀ }) id turn made ≡ wrote k → Before (turn + 1) k.leads
-  kept_before k e = later (order_led work_store id 512 T [] began id false) (order_led_lem work_store T id 512 (marks_in m) false) k (sym kept_is ∙ e)
+  pub kept_before : (k : Beside) → dumped_kept b B held unbounded (record { traced = start; leaders = l₀ }) id turn made ≡ wrote k → Before (turn + 1) k.leaders
+  kept_before k e = later (order_with_leaders work_store id 512 T [] began id false) (order_with_leaders_lem work_store T id 512 (marks_in m) false) k (sym kept_is ∙ e)
 
 -- ---- without a list
-module _ (b : TypeTable) (B : Rules) (room : ℕ) (lim : Limit) (m : Sheet) (es : List Entry) (l₀ : List ℕ) (id turn made : ℕ) where
+module _ (b : TypeTable) (B : Rules) (room : ℕ) (lim : Limit) (m : Slices) (es : List Entry) (l₀ : List ℕ) (id turn made : ℕ) where
   abbrev none_held : Lent
   none_held = record { lists = false; room = room }
 
-  abbrev first : Noted Sheet
+  abbrev first : Traced Slices
   first = record { mach = m; entries = es }
 
-  bare : (t : Told MarksAndLeaders) → forget_leads (listed_kept b B none_held id turn first t) ≡ with_entries es (listed_out (work_machine b B) (table_of B) (beside_of m (tmap (λ (k : MarksAndLeaders). k.marks) t)))
-  unfolding listed_kept each_kept forget_leads with_entries listed_out beside_of emit_in work_machine
+  bare : (t : Told MarksAndLeaders) → forget_leaders (listed_kept b B none_held id turn first t) ≡ with_entries es (listed_out (work_machine b B) (table_of B) (beside_of m (tmap (λ (k : MarksAndLeaders). k.marks) t)))
+  unfolding listed_kept each_kept forget_leaders with_entries listed_out beside_of emit_in work_machine
   bare (told s strong j) =
-      forget_with s.leads (obind (eeach (emit_n b B none_held why 512 0) listed (record { mach = after; entries = es })) last)
-      ∙ ap (λ (o : Out (Noted Sheet)). obind o last) (each_plain b B room why es listed after)
+      forget_with s.leaders (obind (eeach (emit_n b B none_held why 512 0) listed (record { mach = after; entries = es })) last)
+      ∙ ap (λ (o : Out (Traced Slices)). obind o last) (each_plain b B room why es listed after)
       ∙ then_plain b B room why es (eeach (emit_in b B 512 0) listed after) last (λ k. wrote ((work_machine b B).start 0 k)) (λ k. refl)
     where
       why : ℕ → Entry
-      why = entry_in id turn s.leads
+      why = entry_in id turn s.leaders
 
-      after : Sheet
+      after : Slices
       after = with_marks m s.marks
 
       listed : List ℕ
-      listed = sheet_store.list (with_marks m s.marks)
+      listed = slices_store.list (with_marks m s.marks)
 
-      last : Noted Sheet → Out (Noted Sheet)
+      last : Traced Slices → Out (Traced Slices)
       last k = wrote (record { mach = (work_machine b B).start 0 k.mach; entries = k.entries })
   bare (halted c j) = refl
 
   -- THE THEOREM: the entries stay, and the rest is the request under the ceiling
-  pub dumped_bare : forget_leads (dumped_kept b B none_held lim (record { noted = first; leads = l₀ }) id turn made) ≡ with_entries es (dumped_metered b B lim m id made)
+  pub dumped_bare : forget_leaders (dumped_kept b B none_held lim (record { traced = first; leaders = l₀ }) id turn made) ≡ with_entries es (dumped_metered b B lim m id made)
   unfolding dumped_kept ordered_kept dumped_metered
   dumped_bare =
-      bare (order_kept lim (way_to id turn) 512 (table_of B) (record { marks = marks_in m; leads = l₀ }) id false made)
-      ∙ ap (λ (t : Told Marks). with_entries es (listed_out (work_machine b B) (table_of B) (beside_of m t))) (sym (forget_kept lim (way_to id turn) 512 (table_of B) (record { marks = marks_in m; leads = l₀ }) id false made))
+      bare (order_kept lim (way_to id turn) 512 (table_of B) (record { marks = marks_in m; leaders = l₀ }) id false made)
+      ∙ ap (λ (t : Told Marks). with_entries es (listed_out (work_machine b B) (table_of B) (beside_of m t))) (sym (forget_kept lim (way_to id turn) 512 (table_of B) (record { marks = marks_in m; leaders = l₀ }) id false made))
 
 -- a table of a session has no more types than there are words
 past_record : (b : TypeTable) (s w : List ℕ) (x : ℕ) → b.types ≤ x → record_by_id b s w x ≡ void_record

@@ -27,35 +27,35 @@ use Rattle.c_dumper_dependency_order.specs.declared.order_state.Halted.{Halted}
 use Rattle.c_dumper_dependency_order.specs.declared.order_state.Mark.{Mark as CodeMark}
 use Rattle.c_dumper_dependency_order.specs.declared.order_state.Mark.TheVariants.{New, Open, Done}
 use Rattle.c_dumper_dependency_order.specs.order_state.Work.{Marks, mark_is, mark_of, work_store, table_in}
-use Rattle.c_dumper_dependency_order.specs.leaders.Leads.{MarksAndLeaders, order_kept, kept_of, kept_out, entry_in}
+use Rattle.c_dumper_dependency_order.specs.leaders.Leaders.{MarksAndLeaders, order_kept, kept_of, kept_out, entry_in}
 use Rattle.c_dumper_dependency_order.proofs.order_state.Laws.{node_at}
 use Rattle.c_dumper_dependency_order.proofs.order_type.Laws as kept
 use Rattle.c_dumper_dependency_order.proofs.leaders.Maps.{forget_kept}
 use Rattle.spec_session.specs.metered.Metered.{ordered_in, beside_of, dumped_metered, calls_in}
-use Rattle.spec_session.specs.emission.Sheet.{Sheet, marks_in, with_marks, sheet_store, emptied, work_machine, is_ignored, is_idle}
+use Rattle.spec_session.specs.emission.Slices.{Slices, marks_in, with_marks, slices_store, emptied, work_machine, is_ignored, is_idle}
 use Rattle.spec_c_dumper.specs.rules.Request.{listed_out, dumped}
-use Rattle.spec_c_dumper.specs.origins.Causes.{Noted}
+use Rattle.spec_c_dumper.specs.origins.Causes.{Traced}
 use Rattle.spec_c_dumper.proofs.rules.Maps.{rmap, tmap, StoreMap, map_order}
-use Rattle.spec_session.proofs.emission.Laws.{sheet}
+use Rattle.spec_session.proofs.emission.Laws.{slices}
 use Rattle.c_dumper_emit.specs.declared.entries.Pen.{Pen}
-use Rattle.c_dumper_emit.specs.entries.Noted.{Lent, noted_out, emit_n}
-use Rattle.c_dumper_emit.proofs.entries.Laws.{Penned, paper, goes, halts, obind_then}
-use Rattle.c_dumper_emit.specs.dump_type.Kept.{way_to, Beside, with_leads, ordered_kept, each_kept, listed_kept, dumped_kept}
+use Rattle.c_dumper_emit.specs.entries.Traced.{Lent, traced_out, emit_n}
+use Rattle.c_dumper_emit.proofs.entries.Laws.{Penned, traced_at, goes, halts, obind_then}
+use Rattle.c_dumper_emit.specs.dump_type.Kept.{way_to, Beside, with_leaders, ordered_kept, each_kept, listed_kept, dumped_kept}
 
 -- ---- ordering beside a text: what the store in the work gives, and the text as it was
 module _ (t : List ℕ) (at : ℕ) where
-  abbrev pub beside : Marks → Sheet
+  abbrev pub beside : Marks → Slices
   beside k = record { work = k.work; text = t; at = at; len = k.len }
 
-  abbrev pub lifted : Res Marks → Res Sheet
+  abbrev pub lifted : Res Marks → Res Slices
   lifted r = rmap beside r
 
-  beside_map : StoreMap work_store sheet_store beside
-  unfolding sheet_store
+  beside_map : StoreMap work_store slices_store beside
+  unfolding slices_store
   beside_map = record { gets = λ k x. refl; marks = λ d x k. refl; pushes = λ x k. refl; lists = λ k. refl }
 
-  pub lift_order : (n : ℕ) (T : Table) (k : Marks) (x : ℕ) (weak : Bool) → order sheet_store n T (beside k) x weak ≡ lifted (order work_store n T k x weak)
-  lift_order n T k x weak = map_order work_store sheet_store beside beside_map n T k x weak
+  pub lift_order : (n : ℕ) (T : Table) (k : Marks) (x : ℕ) (weak : Bool) → order slices_store n T (beside k) x weak ≡ lifted (order work_store n T k x weak)
+  lift_order n T k x weak = map_order work_store slices_store beside beside_map n T k x weak
 
 -- ---- dump_type
 abbrev start : ℕ → Order
@@ -84,7 +84,7 @@ module _ (b : TypeTable) (s : List ℕ) (lent : Lent) (lim : Limit) (p : Pen) (t
   abbrev X : Rules
   X = btf_of b s w
 
-  order_is : kept_out r₁ w₁ l₁ ≡ ordered_kept X lim (sheet 0 p.at tx w) l₀ id turn made
+  order_is : kept_out r₁ w₁ l₁ ≡ ordered_kept X lim (slices 0 p.at tx w) l₀ id turn made
   unfolding ordered_kept
   order_is = e
 
@@ -92,52 +92,52 @@ module _ (b : TypeTable) (s : List ℕ) (lent : Lent) (lim : Limit) (p : Pen) (t
   dumps m = dumped_kept b X lent lim m id turn made
 
   abbrev begun : Beside
-  begun = record { noted = paper 0 p tx w li; leads = l₀ }
+  begun = record { traced = traced_at 0 p tx w li; leaders = l₀ }
 
-  dumped_is : dumps begun ≡ listed_kept b X lent id turn (paper 0 p tx w li) (kept_out r₁ w₁ l₁)
+  dumped_is : dumps begun ≡ listed_kept b X lent id turn (traced_at 0 p tx w li) (kept_out r₁ w₁ l₁)
   unfolding dumped_kept
-  dumped_is = ap (listed_kept b X lent id turn (paper 0 p tx w li)) (sym order_is)
+  dumped_is = ap (listed_kept b X lent id turn (traced_at 0 p tx w li)) (sym order_is)
 
-  run : (k : Beside → Out Beside) → obind (with_leads l₀ (noted_out 0 (Ok p) tx w li)) k ≡ k begun
-  unfolding obind with_leads
-  run k = ap (λ (q : Out (Noted Sheet)). obind (with_leads l₀ q) k) (goes 0 p tx w li)
+  run : (k : Beside → Out Beside) → obind (with_leaders l₀ (traced_out 0 (Ok p) tx w li)) k ≡ k begun
+  unfolding obind with_leaders
+  run k = ap (λ (q : Out (Traced Slices)). obind (with_leaders l₀ q) k) (goes 0 p tx w li)
 
-  pub dump_refused : (h : Halted) → r₁ ≡ Err h → with_leads l₁ (noted_out 0 (Err h.refusal) tx w₁ li) ≡ obind (with_leads l₀ (noted_out 0 (Ok p) tx w li)) dumps
-  unfolding kept_out listed_kept with_leads
-  dump_refused h eh = ap (with_leads l₁) (halts 0 h.refusal tx w₁ li) ∙ sym (run dumps ∙ dumped_is ∙ ap (λ (q : Result Order Halted). listed_kept b X lent id turn (paper 0 p tx w li) (kept_out q w₁ l₁)) eh)
+  pub dump_refused : (h : Halted) → r₁ ≡ Err h → with_leaders l₁ (traced_out 0 (Err h.refusal) tx w₁ li) ≡ obind (with_leaders l₀ (traced_out 0 (Ok p) tx w li)) dumps
+  unfolding kept_out listed_kept with_leaders
+  dump_refused h eh = ap (with_leaders l₁) (halts 0 h.refusal tx w₁ li) ∙ sym (run dumps ∙ dumped_is ∙ ap (λ (q : Result Order Halted). listed_kept b X lent id turn (traced_at 0 p tx w li) (kept_out q w₁ l₁)) eh)
 
   module _ (o : Order) (z : r₁ ≡ Ok o) where
     -- ordering left the table
     table_is : btf_of b s w₁ ≡ X
     table_is = kept.called_stays lim b s w (kept_of (start made) w l₀) made o w₁ l₁ id 512 false (way_to id turn) (ap (λ (q : Result Order Halted). kept_out q w₁ l₁) (sym z) ∙ e)
 
-    last : Noted Sheet → Out (Noted Sheet)
+    last : Traced Slices → Out (Traced Slices)
     last m = wrote (record { mach = (work_machine b X).start 0 m.mach; entries = m.entries })
 
     -- the list is empty again
-    cleared_sheet : (n : ℕ) (r : Penned) (t₂ w₂ l₂ w₃ : List ℕ) → w₃ ≡ emptied n w₂ → noted_out 0 r t₂ w₃ l₂ ≡ obind (noted_out n r t₂ w₂ l₂) last
+    cleared_slices : (n : ℕ) (r : Penned) (t₂ w₂ l₂ w₃ : List ℕ) → w₃ ≡ emptied n w₂ → traced_out 0 r t₂ w₃ l₂ ≡ obind (traced_out n r t₂ w₂ l₂) last
     unfolding obind work_machine last
-    cleared_sheet n (Ok q) t₂ w₂ l₂ w₃ ew = goes 0 q t₂ w₃ l₂ ∙ ap (λ (u : List ℕ). wrote (paper 0 q t₂ u l₂)) ew ∙ sym (ap (λ (u : Out (Noted Sheet)). obind u last) (goes n q t₂ w₂ l₂))
-    cleared_sheet n (Err c) t₂ w₂ l₂ w₃ ew = halts 0 c t₂ w₃ l₂ ∙ sym (ap (λ (u : Out (Noted Sheet)). obind u last) (halts n c t₂ w₂ l₂))
+    cleared_slices n (Ok q) t₂ w₂ l₂ w₃ ew = goes 0 q t₂ w₃ l₂ ∙ ap (λ (u : List ℕ). wrote (traced_at 0 q t₂ u l₂)) ew ∙ sym (ap (λ (u : Out (Traced Slices)). obind u last) (goes n q t₂ w₂ l₂))
+    cleared_slices n (Err c) t₂ w₂ l₂ w₃ ew = halts 0 c t₂ w₃ l₂ ∙ sym (ap (λ (u : Out (Traced Slices)). obind u last) (halts n c t₂ w₂ l₂))
 
-    pub dump_listed : (r : Penned) (t₂ w₂ l₂ : List ℕ) → noted_out o.len r t₂ w₂ l₂ ≡ obind (noted_out o.len (Ok p) tx w₁ li) (λ m. eeach (emit_n b (btf_of b s w₁) lent (entry_in id turn l₁) 512 0) (sheet_store.list m.mach) m)
-        → (w₃ : List ℕ) → w₃ ≡ emptied o.len w₂ → with_leads l₁ (noted_out 0 r t₂ w₃ l₂) ≡ obind (with_leads l₀ (noted_out 0 (Ok p) tx w li)) dumps
+    pub dump_listed : (r : Penned) (t₂ w₂ l₂ : List ℕ) → traced_out o.len r t₂ w₂ l₂ ≡ obind (traced_out o.len (Ok p) tx w₁ li) (λ m. eeach (emit_n b (btf_of b s w₁) lent (entry_in id turn l₁) 512 0) (slices_store.list m.mach) m)
+        → (w₃ : List ℕ) → w₃ ≡ emptied o.len w₂ → with_leaders l₁ (traced_out 0 r t₂ w₃ l₂) ≡ obind (with_leaders l₀ (traced_out 0 (Ok p) tx w li)) dumps
     unfolding obind kept_out listed_kept each_kept last
     dump_listed r t₂ w₂ l₂ e₂ w₃ e₃ =
-        ap (with_leads l₁) (cleared_sheet o.len r t₂ w₂ l₂ w₃ e₃
-        ∙ ap (λ (q : Out (Noted Sheet)). obind q last) (e₂ ∙ ap (λ (Q : Rules). obind (noted_out o.len (Ok p) tx w₁ li) (λ m. eeach (emit_n b Q lent (entry_in id turn l₁) 512 0) (sheet_store.list m.mach) m)) table_is)
-        ∙ obind_then (noted_out o.len (Ok p) tx w₁ li) each last)
-        ∙ ap (λ (q : Out (Noted Sheet)). with_leads l₁ (obind q all)) (goes o.len p tx w₁ li)
-        ∙ sym (run dumps ∙ dumped_is ∙ ap (λ (q : Result Order Halted). listed_kept b X lent id turn (paper 0 p tx w li) (kept_out q w₁ l₁)) z)
+        ap (with_leaders l₁) (cleared_slices o.len r t₂ w₂ l₂ w₃ e₃
+        ∙ ap (λ (q : Out (Traced Slices)). obind q last) (e₂ ∙ ap (λ (Q : Rules). obind (traced_out o.len (Ok p) tx w₁ li) (λ m. eeach (emit_n b Q lent (entry_in id turn l₁) 512 0) (slices_store.list m.mach) m)) table_is)
+        ∙ obind_then (traced_out o.len (Ok p) tx w₁ li) each last)
+        ∙ ap (λ (q : Out (Traced Slices)). with_leaders l₁ (obind q all)) (goes o.len p tx w₁ li)
+        ∙ sym (run dumps ∙ dumped_is ∙ ap (λ (q : Result Order Halted). listed_kept b X lent id turn (traced_at 0 p tx w li) (kept_out q w₁ l₁)) z)
       where
-        each : Noted Sheet → Out (Noted Sheet)
-        each m = eeach (emit_n b X lent (entry_in id turn l₁) 512 0) (sheet_store.list m.mach) m
+        each : Traced Slices → Out (Traced Slices)
+        each m = eeach (emit_n b X lent (entry_in id turn l₁) 512 0) (slices_store.list m.mach) m
 
-        all : Noted Sheet → Out (Noted Sheet)
+        all : Traced Slices → Out (Traced Slices)
         all m = obind (each m) last
 
 -- ---- without a list: the plain request, and under a ceiling the plain one or 22
-beside_tell : (m : Sheet) (r : Res Marks) (j : ℕ) → beside_of m (tell r j) ≡ rmap (with_marks m) r
+beside_tell : (m : Slices) (r : Res Marks) (j : ℕ) → beside_of m (tell r j) ≡ rmap (with_marks m) r
 unfolding beside_of tell
 beside_tell m (ok k f) j = refl
 beside_tell m (refused c) j = refl
@@ -147,7 +147,7 @@ unfolding calls_made tell
 tell_count (ok m f) j = refl
 tell_count (refused c) j = refl
 
-module _ (b : TypeTable) (B : Rules) (m : Sheet) (id made : ℕ) where
+module _ (b : TypeTable) (B : Rules) (m : Slices) (id made : ℕ) where
   abbrev plain_rule : Res Marks
   plain_rule = order work_store 512 (table_of B) (marks_in m) id false
 
@@ -163,7 +163,7 @@ module _ (b : TypeTable) (B : Rules) (m : Sheet) (id made : ℕ) where
 pub plain_made : (B : Rules) (k : Marks) (id made : ℕ) → calls_made (ordered_in B unbounded k id made) ≡ made
 plain_made B k id made = ap calls_made (unbounded_is work_store 512 (table_of B) k id false made) ∙ tell_count (order work_store 512 (table_of B) k id false) made
 
-module _ (b : TypeTable) (s : List ℕ) (m : Sheet) (z : m.len ≡ 0) (id c made : ℕ) where
+module _ (b : TypeTable) (s : List ℕ) (m : Slices) (z : m.len ≡ 0) (id c made : ℕ) where
   abbrev opens : ℕ
   opens = calls_in b s m.work id
 
@@ -255,19 +255,19 @@ module _ (b : TypeTable) (s : List ℕ) (w : List ℕ) (id : ℕ) (m : CodeMark)
 
 -- A request for an idle id leaves the text and the work as they were.
 module _ (b : TypeTable) (B : Rules) (at : ℕ) (tx w : List ℕ) (id : ℕ) where
-  quiet : (f : Bool) → listed_out (work_machine b B) (table_of B) (ok (sheet 0 at tx w) f) ≡ wrote (sheet 0 at tx w)
-  unfolding listed_out work_machine sheet_store work_store from eeach obind emptied
+  quiet : (f : Bool) → listed_out (work_machine b B) (table_of B) (ok (slices 0 at tx w) f) ≡ wrote (slices 0 at tx w)
+  unfolding listed_out work_machine slices_store work_store from eeach obind emptied
   quiet f = refl
 
   idle_visit : (n : ℕ) (d : Mark) → is_idle d ((table_of B).node id) ≡ true
-      → listed_out (work_machine b B) (table_of B) (visit sheet_store (table_of B) (λ s' y f. order sheet_store n (table_of B) s' y f) (sheet 0 at tx w) id false d) ≡ wrote (sheet 0 at tx w)
+      → listed_out (work_machine b B) (table_of B) (visit slices_store (table_of B) (λ s' y f. order slices_store n (table_of B) s' y f) (slices 0 at tx w) id false d) ≡ wrote (slices 0 at tx w)
   unfolding visit is_idle fresh is_ignored
   idle_visit n new e = go ((table_of B).node id) e
     where
       yes_no : false ≡ true → ⊥
       yes_no q = let z : ◌≡◌ {A = ℕ} 0 1 = cc in omega arith
 
-      go : (nd : Node) → is_ignored nd ≡ true → listed_out (work_machine b B) (table_of B) (fresh sheet_store (table_of B) (λ s' y f. order sheet_store n (table_of B) s' y f) (sheet 0 at tx w) id false nd) ≡ wrote (sheet 0 at tx w)
+      go : (nd : Node) → is_ignored nd ≡ true → listed_out (work_machine b B) (table_of B) (fresh slices_store (table_of B) (λ s' y f. order slices_store n (table_of B) s' y f) (slices 0 at tx w) id false nd) ≡ wrote (slices 0 at tx w)
       go ignored q = quiet false
       go plain q = absurd (yes_no q)
       go (listed f) q = absurd (yes_no q)
@@ -279,11 +279,11 @@ module _ (b : TypeTable) (B : Rules) (at : ℕ) (tx w : List ℕ) (id : ℕ) whe
   idle_visit n busy e = absurd (let z : ◌≡◌ {A = ℕ} 0 1 = cc in omega arith)
   idle_visit n done e = quiet true
 
-  idle_order : (n : ℕ) → is_idle (mark_of (get_field w id 1)) ((table_of B).node id) ≡ true → listed_out (work_machine b B) (table_of B) (order sheet_store (suc n) (table_of B) (sheet 0 at tx w) id false) ≡ wrote (sheet 0 at tx w)
-  unfolding order sheet_store work_store
+  idle_order : (n : ℕ) → is_idle (mark_of (get_field w id 1)) ((table_of B).node id) ≡ true → listed_out (work_machine b B) (table_of B) (order slices_store (suc n) (table_of B) (slices 0 at tx w) id false) ≡ wrote (slices 0 at tx w)
+  unfolding order slices_store work_store
   idle_order n e = idle_visit n (mark_of (get_field w id 1)) e
 
-  pub idle_request : is_idle (mark_of (get_field w id 1)) ((table_of B).node id) ≡ true → dumped (work_machine b B) (table_of B) (sheet 0 at tx w) id ≡ wrote (sheet 0 at tx w)
+  pub idle_request : is_idle (mark_of (get_field w id 1)) ((table_of B).node id) ≡ true → dumped (work_machine b B) (table_of B) (slices 0 at tx w) id ≡ wrote (slices 0 at tx w)
   unfolding dumped work_machine
   idle_request e = idle_order 511 e
 

@@ -27,21 +27,21 @@ use Rattle.spec_type_table.specs.Table.{btf_of, work_naming, type_version_in, va
 use Rattle.spec_type_table.proofs.Laws.{place_type, place_enum}
 use Rattle.spec_type_table.proofs.Frame.{field_other, table_field, table_type_version, table_value_version, counted_other}
 use Rattle.c_dumper_dependency_order.specs.order_state.Work.{code}
-use Rattle.spec_session.specs.emission.Sheet.{Sheet, sheet_of, line_in, work_machine}
-use Rattle.spec_c_dumper.specs.origins.Causes.{Entry, entry, Noted, with_entries, up_to, line, cause_at, shows_in}
+use Rattle.spec_session.specs.emission.Slices.{Slices, slices_of, line_in, work_machine}
+use Rattle.spec_c_dumper.specs.origins.Causes.{Entry, entry, Traced, with_entries, up_to, line, cause_at, shows_in}
 use Rattle.spec_session.proofs.emission.Frame.{table_emark, places}
-use Rattle.c_dumper_emit.specs.entries.Noted.{Lent, mach_n, emit_n}
+use Rattle.c_dumper_emit.specs.entries.Traced.{Lent, mach_n, emit_n}
 
 module _ {X : Type 0} (P : List ℕ → X) where
-  pub data Stays (w : List ℕ) : Out (Noted Sheet) → Type 0 where
-    on : {m : Noted Sheet} → P m.mach.work ≡ P w → Stays w (wrote m)
+  pub data Stays (w : List ℕ) : Out (Traced Slices) → Type 0 where
+    on : {m : Traced Slices} → P m.mach.work ≡ P w → Stays w (wrote m)
     off : {c : ℕ} → Stays w (stuck c)
 
-  pub stays_from : (w w' : List ℕ) (o : Out (Noted Sheet)) → P w' ≡ P w → Stays w' o → Stays w o
+  pub stays_from : (w w' : List ℕ) (o : Out (Traced Slices)) → P w' ≡ P w → Stays w' o → Stays w o
   stays_from w w' (wrote m) e (on f) = on (f ∙ e)
   stays_from w w' (stuck c) e off = off
 
-  pub stays_then : (w : List ℕ) (o : Out (Noted Sheet)) (k : Noted Sheet → Out (Noted Sheet)) → Stays w o → ((m : Noted Sheet) → Stays m.mach.work (k m)) → Stays w (obind o k)
+  pub stays_then : (w : List ℕ) (o : Out (Traced Slices)) (k : Traced Slices → Out (Traced Slices)) → Stays w o → ((m : Traced Slices) → Stays m.mach.work (k m)) → Stays w (obind o k)
   unfolding obind
   stays_then w (wrote m) k (on e) h = stays_from w m.mach.work (k m) e (h m)
   stays_then w (stuck c) k off h = off
@@ -50,70 +50,70 @@ module _ {X : Type 0} (P : List ℕ → X) where
       (count : (w : List ℕ) (v : ℕ) → P (put_field w 0 2 v) ≡ P w) (aligns : (w : List ℕ) (x v : ℕ) → P (put_field w x 15 v) ≡ P w)
       (types : (space : Space) (id : ℕ) (name : Name) (w : List ℕ) → P ((work_naming b).type_version space id name w).names ≡ P w)
       (values : (id i : ℕ) (name : Name) (w : List ℕ) → P ((work_naming b).value_version id i name w).names ≡ P w) (B : Rules) (lent : Lent) (why : ℕ → Entry) where
-    stays_said : (v : Writer (List ℕ)) → Keeps P v → (es : List Entry) (m : Sheet) → Stays m.work (with_entries es (line_in v m))
-    unfolding line_in sheet_of put_said with_names said_names with_entries
+    stays_said : (v : Writer (List ℕ)) → Keeps P v → (es : List Entry) (m : Slices) → Stays m.work (with_entries es (line_in v m))
+    unfolding line_in slices_of put_said with_names said_names with_entries
     stays_said v h es m = go (v m.work) (h m.work)
       where
-        inner : (u : List ℕ) → P u ≡ P m.work → (o : TextOut) → Stays m.work (with_entries es (sheet_of m.len (with_names u o)))
+        inner : (u : List ℕ) → P u ≡ P m.work → (o : TextOut) → Stays m.work (with_entries es (slices_of m.len (with_names u o)))
         inner u e (lies t at) = on e
         inner u e (stopped c) = off
 
-        go : (s : Said (List ℕ)) → P (said_names s) ≡ P m.work → Stays m.work (with_entries es (sheet_of m.len (put_said m.text (Ok m.at) s)))
+        go : (s : Said (List ℕ)) → P (said_names s) ≡ P m.work → Stays m.work (with_entries es (slices_of m.len (put_said m.text (Ok m.at) s)))
         go (said u x) e = inner u e (put_text m.text (Ok m.at) x)
 
-    stays_line : (shown : Bool) (e : Entry) (v : Writer (List ℕ)) → Keeps P v → (m : Noted Sheet) → Stays m.mach.work (line (up_to lent.room) shown e (λ k. line_in v k) m)
+    stays_line : (shown : Bool) (e : Entry) (v : Writer (List ℕ)) → Keeps P v → (m : Traced Slices) → Stays m.mach.work (line (up_to lent.room) shown e (λ k. line_in v k) m)
     unfolding line
     stays_line false e v h m = stays_said v h m.entries m.mach
     stays_line true e v h m = go (ltb (length m.entries) lent.room)
       where
-        go : (t : Bool) → Stays m.mach.work (elim t as (λ z. Out (Noted Sheet)) [ true ↦ with_entries (m.entries ++ (e ∷ [])) (line_in v m.mach) | false ↦ stuck 17 ])
+        go : (t : Bool) → Stays m.mach.work (elim t as (λ z. Out (Traced Slices)) [ true ↦ with_entries (m.entries ++ (e ∷ [])) (line_in v m.mach) | false ↦ stuck 17 ])
         go true = stays_said v h (m.entries ++ (e ∷ [])) m.mach
         go false = off
 
-    abbrev N : ℕ → Machine (Noted Sheet)
+    abbrev N : ℕ → Machine (Traced Slices)
     N cont = mach_n b B lent why cont
 
-    stays_emark : (cont : ℕ) (k : Mark) (x : ℕ) (m : Noted Sheet) → P ((N cont).emark k x m).mach.work ≡ P m.mach.work
+    stays_emark : (cont : ℕ) (k : Mark) (x : ℕ) (m : Traced Slices) → P ((N cont).emark k x m).mach.work ≡ P m.mach.work
     unfolding work_machine
     stays_emark cont k x m = marks m.mach.work x (code k)
 
-    stays_flag : (cont x : ℕ) (m : Noted Sheet) → P ((N cont).forwarded x m).mach.work ≡ P m.mach.work
+    stays_flag : (cont x : ℕ) (m : Traced Slices) → P ((N cont).forwarded x m).mach.work ≡ P m.mach.work
     unfolding work_machine
     stays_flag cont x m = flags m.mach.work x 1
 
-    stays_fwd : (cont : ℕ) (m : Noted Sheet) (x : ℕ) → Stays m.mach.work ((N cont).fwd_line m x)
+    stays_fwd : (cont : ℕ) (m : Traced Slices) (x : ℕ) → Stays m.mach.work ((N cont).fwd_line m x)
     unfolding work_machine
     stays_fwd cont m x = stays_line (lent.lists && shows_in B x) (entry x 2 cont) (forward_once (work_asks b.types B) (work_naming b) B x (B.type_by_id x)) (forward_keeps P count aligns b B types values x (B.type_by_id x)) m
 
-    stays_alias : (cont : ℕ) (m : Noted Sheet) (x : ℕ) → Stays m.mach.work ((N cont).alias_line m x)
+    stays_alias : (cont : ℕ) (m : Traced Slices) (x : ℕ) → Stays m.mach.work ((N cont).alias_line m x)
     unfolding work_machine
     stays_alias cont m x = stays_line (lent.lists && shows_in B x) (cause_at 3 (why x) x cont) (forward_once (work_asks b.types B) (work_naming b) B x (B.type_by_id x)) (forward_keeps P count aligns b B types values x (B.type_by_id x)) m
 
-    stays_leaf_line : (cont : ℕ) (m : Noted Sheet) (x : ℕ) → Stays m.mach.work ((N cont).leaf_line m x)
+    stays_leaf_line : (cont : ℕ) (m : Traced Slices) (x : ℕ) → Stays m.mach.work ((N cont).leaf_line m x)
     unfolding work_machine
     stays_leaf_line cont m x = stays_line (lent.lists && true) (cause_at 2 (why x) x cont) (definition_once (work_asks b.types B) (work_naming b) B x (B.type_by_id x)) (definition_keeps P count aligns b B types values x (B.type_by_id x)) m
 
-    stays_body : (cont : ℕ) (m : Noted Sheet) (x : ℕ) → Stays m.mach.work ((N cont).body m x)
+    stays_body : (cont : ℕ) (m : Traced Slices) (x : ℕ) → Stays m.mach.work ((N cont).body m x)
     unfolding work_machine
     stays_body cont m x = stays_line (lent.lists && true) (why x) (definition_once (work_asks b.types B) (work_naming b) B x (B.type_by_id x)) (definition_keeps P count aligns b B types values x (B.type_by_id x)) m
 
-    stays_eeach : (f : Noted Sheet → ℕ → Out (Noted Sheet)) → ((m : Noted Sheet) (y : ℕ) → Stays m.mach.work (f m y)) → (ys : List ℕ) (m : Noted Sheet) → Stays m.mach.work (eeach f ys m)
+    stays_eeach : (f : Traced Slices → ℕ → Out (Traced Slices)) → ((m : Traced Slices) (y : ℕ) → Stays m.mach.work (f m y)) → (ys : List ℕ) (m : Traced Slices) → Stays m.mach.work (eeach f ys m)
     unfolding eeach
     stays_eeach f h [] m = on refl
     stays_eeach f h (y ∷ ys) m = stays_then m.mach.work (f m y) (eeach f ys) (h m y) (λ m'. stays_eeach f h ys m')
 
-    stays_once : (cont : ℕ) (f : Noted Sheet → ℕ → Out (Noted Sheet)) → ((m : Noted Sheet) (y : ℕ) → Stays m.mach.work (f m y)) → (x : ℕ) (had : Bool) (m : Noted Sheet) → Stays m.mach.work (once (N cont) (table_of B) f x had m)
+    stays_once : (cont : ℕ) (f : Traced Slices → ℕ → Out (Traced Slices)) → ((m : Traced Slices) (y : ℕ) → Stays m.mach.work (f m y)) → (x : ℕ) (had : Bool) (m : Traced Slices) → Stays m.mach.work (once (N cont) (table_of B) f x had m)
     unfolding once
     stays_once cont f h x true m = on refl
     stays_once cont f h x false m = stays_then m.mach.work (f m x) (λ m'. wrote ((N cont).forwarded x m')) (h m x) (λ m'. on (stays_flag cont x m'))
 
-    stays_mention : (cont : ℕ) (had nm : Bool) (x : ℕ) (m : Noted Sheet) → Stays m.mach.work (mention (N cont) (table_of B) had nm x m)
+    stays_mention : (cont : ℕ) (had nm : Bool) (x : ℕ) (m : Traced Slices) → Stays m.mach.work (mention (N cont) (table_of B) had nm x m)
     unfolding mention
     stays_mention cont true nm x m = on refl
     stays_mention cont false true x m = stays_once cont (N cont).fwd_line (stays_fwd cont) x false m
     stays_mention cont false false x m = off
 
-    stays_again : (m : Noted Sheet) (x cont : ℕ) (nd : Node) → Stays m.mach.work (again (N cont) (table_of B) m x cont nd)
+    stays_again : (m : Traced Slices) (x cont : ℕ) (nd : Node) → Stays m.mach.work (again (N cont) (table_of B) m x cont nd)
     unfolding again
     stays_again m x cont ignored = on refl
     stays_again m x cont plain = on refl
@@ -124,17 +124,17 @@ module _ {X : Type 0} (P : List ℕ → X) where
     stays_again m x cont (proto ts) = on refl
     stays_again m x cont (comp ms) = stays_mention cont ((N cont).has_fwd m x || eqb x cont) ((table_of B).named x) x m
 
-    stays_close : (cont : ℕ) (top : Bool) (x : ℕ) (m : Noted Sheet) → Stays m.mach.work (close (N cont) (table_of B) top x m)
+    stays_close : (cont : ℕ) (top : Bool) (x : ℕ) (m : Traced Slices) → Stays m.mach.work (close (N cont) (table_of B) top x m)
     unfolding close
     stays_close cont true x m = stays_then m.mach.work ((N cont).body m x) (λ m'. wrote ((N cont).emark done x m')) (stays_body cont m x) (λ m'. on (stays_emark cont done x m'))
     stays_close cont false x m = on (stays_emark cont new x m)
 
-    stays_leaf : (cont : ℕ) (top : Bool) (x : ℕ) (m : Noted Sheet) → Stays m.mach.work (leaf (N cont) (table_of B) top x m)
+    stays_leaf : (cont : ℕ) (top : Bool) (x : ℕ) (m : Traced Slices) → Stays m.mach.work (leaf (N cont) (table_of B) top x m)
     unfolding leaf
     stays_leaf cont true x m = stays_then m.mach.work ((N cont).leaf_line m x) (λ m'. wrote ((N cont).emark done x m')) (stays_leaf_line cont m x) (λ m'. on (stays_emark cont done x m'))
     stays_leaf cont false x m = on (stays_emark cont done x m)
 
-    module _ (rec : Noted Sheet → ℕ → ℕ → Out (Noted Sheet)) (h : (m : Noted Sheet) (y c : ℕ) → Stays m.mach.work (rec m y c)) (m : Noted Sheet) (x cont : ℕ) where
+    module _ (rec : Traced Slices → ℕ → ℕ → Out (Traced Slices)) (h : (m : Traced Slices) (y c : ℕ) → Stays m.mach.work (rec m y c)) (m : Traced Slices) (x cont : ℕ) where
       stays_within : (all nm : Bool) (ms : List ℕ) → Stays m.mach.work (within (N cont) (table_of B) rec m x cont all nm ms)
       unfolding within
       stays_within true nm ms =
@@ -170,7 +170,7 @@ module _ {X : Type 0} (P : List ℕ → X) where
       stays_look busy = stays_again m x cont ((table_of B).node x)
       stays_look done = on refl
 
-    pub stays_emit : (n : ℕ) (m : Noted Sheet) (x cont : ℕ) → Stays m.mach.work (emit_n b B lent why n cont m x)
+    pub stays_emit : (n : ℕ) (m : Traced Slices) (x cont : ℕ) → Stays m.mach.work (emit_n b B lent why n cont m x)
     unfolding emit_n
     stays_emit zero m x cont = off
     stays_emit (suc n) m x cont = stays_look (λ m' y c. emit_n b B lent why n c m' y) (λ m' y c. stays_emit n m' y c) m x cont ((work_machine b B).eget m.mach x)
@@ -194,10 +194,10 @@ unfolding work_naming
 table_values b s id i name w = table_value_version b s w (enumerator_of w id i)
 
 module _ (b : TypeTable) (s : List ℕ) (B : Rules) (lent : Lent) (why : ℕ → Entry) where
-  pub table_emit : (n : ℕ) (m : Noted Sheet) (x cont : ℕ) → Stays (btf_of b s) m.mach.work (emit_n b B lent why n cont m x)
+  pub table_emit : (n : ℕ) (m : Traced Slices) (x cont : ℕ) → Stays (btf_of b s) m.mach.work (emit_n b B lent why n cont m x)
   table_emit = stays_emit (btf_of b s) b (table_emark b s) (table_flag b s) (table_count b s) (table_aligns b s) (table_names b s) (table_values b s) B lent why
 
-  pub table_each : (n cont : ℕ) (ys : List ℕ) (m : Noted Sheet) → Stays (btf_of b s) m.mach.work (eeach (λ m' y. emit_n b B lent why n cont m' y) ys m)
+  pub table_each : (n cont : ℕ) (ys : List ℕ) (m : Traced Slices) → Stays (btf_of b s) m.mach.work (eeach (λ m' y. emit_n b B lent why n cont m' y) ys m)
   table_each n cont ys m =
       stays_eeach (btf_of b s) b (table_emark b s) (table_flag b s) (table_count b s) (table_aligns b s) (table_names b s) (table_values b s) B lent why (λ m' y. emit_n b B lent why n cont m' y) (λ m' y. table_emit n m' y cont) ys m
 
@@ -243,5 +243,5 @@ places_values b id i name w = go (ltb (b.types + enumerator_of w id i) 429496729
     go false = refl
     go true = places_counted b.types w (b.types + enumerator_of w id i)
 
-pub places_emit : (b : TypeTable) (B : Rules) (lent : Lent) (why : ℕ → Entry) (n : ℕ) (m : Noted Sheet) (x cont : ℕ) → Stays places m.mach.work (emit_n b B lent why n cont m x)
+pub places_emit : (b : TypeTable) (B : Rules) (lent : Lent) (why : ℕ → Entry) (n : ℕ) (m : Traced Slices) (x cont : ℕ) → Stays places m.mach.work (emit_n b B lent why n cont m x)
 places_emit b = stays_emit places b (places_field 13 (omega arith) (λ e. omega arith)) (places_field 3 (omega arith) (λ e. omega arith)) (λ w v. places_field 2 (omega arith) (λ e. omega arith) w 0 v) (places_field 15 (omega arith) (λ e. omega arith)) (places_names b) (places_values b)

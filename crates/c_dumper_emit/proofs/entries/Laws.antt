@@ -27,20 +27,20 @@ use Rattle.spec_type_table.specs.Names.{str_at}
 use Rattle.spec_type_table.specs.Records.{kind_of}
 use Rattle.spec_type_table.specs.Table.{type_of, btf_of}
 use Rattle.spec_type_table.proofs.KindLaws.{by_kind, type_0, type_1, type_2, type_3, type_4, type_5, type_6, type_7, type_8, type_9, type_10, type_11, type_12, type_13, type_14, type_15, type_16, type_17, type_18, type_19, type_none}
-use Rattle.spec_session.specs.emission.Sheet.{Sheet, sheet_of, with_work, emit_out, line_in}
-use Rattle.spec_session.proofs.emission.Laws.{sheet}
+use Rattle.spec_session.specs.emission.Slices.{Slices, slices_of, with_work, emit_out, line_in}
+use Rattle.spec_session.proofs.emission.Laws.{slices}
 use Rattle.spec_session.proofs.emission.Laws as plainly
-use Rattle.spec_c_dumper.specs.origins.Causes.{Entry, entry, Noted, with_entries, up_to, line, cause_at}
-use Rattle.c_dumper_dependency_order.specs.leaders.Leads.{leader_in, entry_in}
+use Rattle.spec_c_dumper.specs.origins.Causes.{Entry, entry, Traced, with_entries, up_to, line, cause_at}
+use Rattle.c_dumper_dependency_order.specs.leaders.Leaders.{leader_in, entry_in}
 use Rattle.c_dumper_emit.specs.declared.entries.Pen.{Pen}
 use Rattle.c_dumper_emit.specs.declared.entries.Origin.{Origin}
-use Rattle.c_dumper_emit.specs.entries.Noted.{Lent, cause_code, entry_at, entries_of, entry_of, entry_put, noted_out, note_n, note_if_n, line_n, shown_of, emit_n, state_n}
+use Rattle.c_dumper_emit.specs.entries.Traced.{Lent, cause_code, entry_at, entries_of, entry_of, entry_put, traced_out, note_n, note_if_n, line_n, shown_of, emit_n, state_n}
 use Rattle.c_dumper_emit.proofs.entries.Frame.{Stays, on, off, stays_then, table_emit}
 
-abbrev pub paper : ℕ → Pen → List ℕ → List ℕ → List ℕ → Noted Sheet
-paper n p t w l = record { mach = sheet n p.at t w; entries = entries_of p.count l }
+abbrev pub traced_at : ℕ → Pen → List ℕ → List ℕ → List ℕ → Traced Slices
+traced_at n p t w l = record { mach = slices n p.at t w; entries = entries_of p.count l }
 
-abbrev pub with_n : Noted Sheet → List ℕ → Noted Sheet
+abbrev pub with_n : Traced Slices → List ℕ → Traced Slices
 with_n m w = record { mach = with_work m.mach w; entries = m.entries }
 
 -- ---- the entries of a list
@@ -90,13 +90,13 @@ unfolding entry_put
 put_is l k id cause leader l₁ l₂ l₃ e₁ e₂ e₃ = rw (e₃, e₂, e₁)
 
 -- ---- which entry
-pub cause_own : (req turn : ℕ) (leads : List ℕ) (x : ℕ) → x ≡ req → entry x 0 x ≡ entry_in req turn leads x
+pub cause_own : (req turn : ℕ) (leaders : List ℕ) (x : ℕ) → x ≡ req → entry x 0 x ≡ entry_in req turn leaders x
 unfolding entry_in
-cause_own req turn leads x e = rw (eq-eqb x req e, entry_in)
+cause_own req turn leaders x e = rw (eq-eqb x req e, entry_in)
 
-pub cause_led : (req turn : ℕ) (leads : List ℕ) (x d : ℕ) → (x ≡ req → ⊥) → d ≡ leader_in req turn leads x → entry x 1 d ≡ entry_in req turn leads x
+pub cause_leader : (req turn : ℕ) (leaders : List ℕ) (x d : ℕ) → (x ≡ req → ⊥) → d ≡ leader_in req turn leaders x → entry x 1 d ≡ entry_in req turn leaders x
 unfolding entry_in
-cause_led req turn leads x d n e = ap (entry x 1) e ∙ rw (ne_eqb x req n, entry_in)
+cause_leader req turn leaders x d n e = ap (entry x 1) e ∙ rw (ne_eqb x req n, entry_in)
 
 pub cause_top : (w : ℕ) (top : Entry) (x cont : ℕ) (e : Entry) → cont ≡ 0 → e ≡ top → e ≡ cause_at w top x cont
 unfolding cause_at
@@ -154,140 +154,140 @@ module _ (b : TypeTable) (s : List ℕ) (t : Record) where
 abbrev pub Penned : Type 0
 Penned = Result Pen Refusal
 
-pub goes : (n : ℕ) (p : Pen) (t w l : List ℕ) → noted_out n (Ok p) t w l ≡ wrote (paper n p t w l)
-unfolding noted_out with_entries
+pub goes : (n : ℕ) (p : Pen) (t w l : List ℕ) → traced_out n (Ok p) t w l ≡ wrote (traced_at n p t w l)
+unfolding traced_out with_entries
 goes n p t w l = ap (with_entries (entries_of p.count l)) (plainly.goes n p.at t w)
 
-pub halts : (n : ℕ) (c : Refusal) (t w l : List ℕ) → noted_out n (Err c) t w l ≡ stuck (refusal_number c)
-unfolding noted_out
+pub halts : (n : ℕ) (c : Refusal) (t w l : List ℕ) → traced_out n (Err c) t w l ≡ stuck (refusal_number c)
+unfolding traced_out
 halts n c t w l = refl
 
 -- ---- obind
-pub obind_then : (o : Out (Noted Sheet)) (k k' : Noted Sheet → Out (Noted Sheet)) → obind (obind o k) k' ≡ obind o (λ m. obind (k m) k')
+pub obind_then : (o : Out (Traced Slices)) (k k' : Traced Slices → Out (Traced Slices)) → obind (obind o k) k' ≡ obind o (λ m. obind (k m) k')
 unfolding obind
 obind_then (wrote m) k k' = refl
 obind_then (stuck c) k k' = refl
 
-pub obind_wrote : (o : Out (Noted Sheet)) → obind o (λ m. wrote m) ≡ o
+pub obind_wrote : (o : Out (Traced Slices)) → obind o (λ m. wrote m) ≡ o
 unfolding obind
 obind_wrote (wrote m) = refl
 obind_wrote (stuck c) = refl
 
-pub obind_same : (o : Out (Noted Sheet)) (k k' : Noted Sheet → Out (Noted Sheet)) → ((m : Noted Sheet) → k m ≡ k' m) → obind o k ≡ obind o k'
+pub obind_same : (o : Out (Traced Slices)) (k k' : Traced Slices → Out (Traced Slices)) → ((m : Traced Slices) → k m ≡ k' m) → obind o k ≡ obind o k'
 obind_same o k k' e = ap (obind o) (λ i m. e m i)
 
-pub then : (x : Out (Noted Sheet)) (k k' : Noted Sheet → Out (Noted Sheet)) (y z : Out (Noted Sheet)) → y ≡ obind x k → z ≡ obind y k' → z ≡ obind x (λ m. obind (k m) k')
-then x k k' y z e f = f ∙ ap (λ (o : Out (Noted Sheet)). obind o k') e ∙ obind_then x k k'
+pub then : (x : Out (Traced Slices)) (k k' : Traced Slices → Out (Traced Slices)) (y z : Out (Traced Slices)) → y ≡ obind x k → z ≡ obind y k' → z ≡ obind x (λ m. obind (k m) k')
+then x k k' y z e f = f ∙ ap (λ (o : Out (Traced Slices)). obind o k') e ∙ obind_then x k k'
 
 module _ (n : ℕ) (t w l : List ℕ) where
-  run : (p : Pen) (k : Noted Sheet → Out (Noted Sheet)) → obind (noted_out n (Ok p) t w l) k ≡ k (paper n p t w l)
+  run : (p : Pen) (k : Traced Slices → Out (Traced Slices)) → obind (traced_out n (Ok p) t w l) k ≡ k (traced_at n p t w l)
   unfolding obind
-  run p k = ap (λ (o : Out (Noted Sheet)). obind o k) (goes n p t w l)
+  run p k = ap (λ (o : Out (Traced Slices)). obind o k) (goes n p t w l)
 
-  halt : (c : Refusal) (k : Noted Sheet → Out (Noted Sheet)) → obind (noted_out n (Err c) t w l) k ≡ stuck (refusal_number c)
+  halt : (c : Refusal) (k : Traced Slices → Out (Traced Slices)) → obind (traced_out n (Err c) t w l) k ≡ stuck (refusal_number c)
   unfolding obind
-  halt c k = ap (λ (o : Out (Noted Sheet)). obind o k) (halts n c t w l)
+  halt c k = ap (λ (o : Out (Traced Slices)). obind o k) (halts n c t w l)
 
   -- `?` hands on what stopped the writing, whatever comes after
-  pub ended : (c : Refusal) (r : Penned) (k : Noted Sheet → Out (Noted Sheet)) → IsErrAnd r (λ e. e ≡ c) → noted_out n r t w l ≡ obind (noted_out n (Err c) t w l) k
+  pub ended : (c : Refusal) (r : Penned) (k : Traced Slices → Out (Traced Slices)) → IsErrAnd r (λ e. e ≡ c) → traced_out n r t w l ≡ obind (traced_out n (Err c) t w l) k
   ended c (Ok p) k e = absurd e
-  ended c (Err d) k e = ap (λ (z : Refusal). noted_out n (Err z) t w l) e ∙ halts n c t w l ∙ sym (halt c k)
+  ended c (Err d) k e = ap (λ (z : Refusal). traced_out n (Err z) t w l) e ∙ halts n c t w l ∙ sym (halt c k)
 
 module _ (n : ℕ) (p : Penned) (t w l : List ℕ) where
   -- a sheet that is at hand
-  pub at_sheet : (k k' : Noted Sheet → Out (Noted Sheet)) → ((q : Pen) → p ≡ Ok q → k (paper n q t w l) ≡ k' (paper n q t w l)) → obind (noted_out n p t w l) k ≡ obind (noted_out n p t w l) k'
-  at_sheet k k' e = go p e
+  pub at_slices : (k k' : Traced Slices → Out (Traced Slices)) → ((q : Pen) → p ≡ Ok q → k (traced_at n q t w l) ≡ k' (traced_at n q t w l)) → obind (traced_out n p t w l) k ≡ obind (traced_out n p t w l) k'
+  at_slices k k' e = go p e
     where
-      go : (r : Penned) → ((q : Pen) → r ≡ Ok q → k (paper n q t w l) ≡ k' (paper n q t w l)) → obind (noted_out n r t w l) k ≡ obind (noted_out n r t w l) k'
+      go : (r : Penned) → ((q : Pen) → r ≡ Ok q → k (traced_at n q t w l) ≡ k' (traced_at n q t w l)) → obind (traced_out n r t w l) k ≡ obind (traced_out n r t w l) k'
       go (Ok q) h = run n t w l q k ∙ h q refl ∙ sym (run n t w l q k')
       go (Err c) h = halt n t w l c k ∙ sym (halt n t w l c k')
 
   -- a step on the work alone, and then more
-  pub work_sheet : (f : List ℕ → List ℕ) (w' : List ℕ) (k : Noted Sheet → Out (Noted Sheet)) → w' ≡ f w → obind (noted_out n p t w' l) k ≡ obind (noted_out n p t w l) (λ m. k (with_n m (f m.mach.work)))
-  work_sheet f w' k e = go p
+  pub work_slices : (f : List ℕ → List ℕ) (w' : List ℕ) (k : Traced Slices → Out (Traced Slices)) → w' ≡ f w → obind (traced_out n p t w' l) k ≡ obind (traced_out n p t w l) (λ m. k (with_n m (f m.mach.work)))
+  work_slices f w' k e = go p
     where
-      go : (r : Penned) → obind (noted_out n r t w' l) k ≡ obind (noted_out n r t w l) (λ m. k (with_n m (f m.mach.work)))
-      go (Ok q) = run n t w' l q k ∙ ap (λ (u : List ℕ). k (paper n q t u l)) e ∙ sym (run n t w l q (λ m. k (with_n m (f m.mach.work))))
+      go : (r : Penned) → obind (traced_out n r t w' l) k ≡ obind (traced_out n r t w l) (λ m. k (with_n m (f m.mach.work)))
+      go (Ok q) = run n t w' l q k ∙ ap (λ (u : List ℕ). k (traced_at n q t u l)) e ∙ sym (run n t w l q (λ m. k (with_n m (f m.mach.work))))
       go (Err c) = halt n t w' l c k ∙ sym (halt n t w l c (λ m. k (with_n m (f m.mach.work))))
 
-  pub work_last : (f : List ℕ → List ℕ) (w' : List ℕ) → w' ≡ f w → noted_out n p t w' l ≡ obind (noted_out n p t w l) (λ m. wrote (with_n m (f m.mach.work)))
-  work_last f w' e = sym (obind_wrote (noted_out n p t w' l)) ∙ work_sheet f w' (λ m. wrote m) e
+  pub work_last : (f : List ℕ → List ℕ) (w' : List ℕ) → w' ≡ f w → traced_out n p t w' l ≡ obind (traced_out n p t w l) (λ m. wrote (with_n m (f m.mach.work)))
+  work_last f w' e = sym (obind_wrote (traced_out n p t w' l)) ∙ work_slices f w' (λ m. wrote m) e
 
-  pub state_last : (x k : ℕ) (w' : List ℕ) → w' ≡ put_field w x 13 k → noted_out n p t w' l ≡ obind (noted_out n p t w l) (λ m. wrote (state_n x k m))
+  pub state_last : (x k : ℕ) (w' : List ℕ) → w' ≡ put_field w x 13 k → traced_out n p t w' l ≡ obind (traced_out n p t w l) (λ m. wrote (state_n x k m))
   state_last x k w' e = work_last (λ u. put_field u x 13 k) w' e
 
-  pub flag_last : (x : ℕ) (w' : List ℕ) → w' ≡ put_field w x 3 1 → noted_out n p t w' l ≡ obind (noted_out n p t w l) (λ m. wrote (with_n m (put_field m.mach.work x 3 1)))
+  pub flag_last : (x : ℕ) (w' : List ℕ) → w' ≡ put_field w x 3 1 → traced_out n p t w' l ≡ obind (traced_out n p t w l) (λ m. wrote (with_n m (put_field m.mach.work x 3 1)))
   flag_last x w' e = work_last (λ u. put_field u x 3 1) w' e
 
 module _ (n : ℕ) (p : Pen) (t w l : List ℕ) where
-  abbrev Here : Out (Noted Sheet)
-  Here = noted_out n (Ok p) t w l
+  abbrev Here : Out (Traced Slices)
+  Here = traced_out n (Ok p) t w l
 
   -- from a pen
-  pub at_pen : (k k' : Noted Sheet → Out (Noted Sheet)) → k (paper n p t w l) ≡ k' (paper n p t w l) → obind Here k ≡ obind Here k'
+  pub at_pen : (k k' : Traced Slices → Out (Traced Slices)) → k (traced_at n p t w l) ≡ k' (traced_at n p t w l) → obind Here k ≡ obind Here k'
   at_pen k k' e = run n t w l p k ∙ e ∙ sym (run n t w l p k')
 
   -- nothing done
-  pub same_sheet : (k : Noted Sheet → Out (Noted Sheet)) → k (paper n p t w l) ≡ wrote (paper n p t w l) → Here ≡ obind Here k
-  same_sheet k e = goes n p t w l ∙ sym (run n t w l p k ∙ e)
+  pub same_slices : (k : Traced Slices → Out (Traced Slices)) → k (traced_at n p t w l) ≡ wrote (traced_at n p t w l) → Here ≡ obind Here k
+  same_slices k e = goes n p t w l ∙ sym (run n t w l p k ∙ e)
 
   -- a refusal
-  pub stop_sheet : (c : Refusal) (k : Noted Sheet → Out (Noted Sheet)) → k (paper n p t w l) ≡ stuck (refusal_number c) → noted_out n (Err c) t w l ≡ obind Here k
-  stop_sheet c k e = halts n c t w l ∙ sym (run n t w l p k ∙ e)
+  pub stop_slices : (c : Refusal) (k : Traced Slices → Out (Traced Slices)) → k (traced_at n p t w l) ≡ stuck (refusal_number c) → traced_out n (Err c) t w l ≡ obind Here k
+  stop_slices c k e = halts n c t w l ∙ sym (run n t w l p k ∙ e)
 
   -- what a writer says
-  abbrev writes : Writer (List ℕ) → Noted Sheet → Out (Noted Sheet)
+  abbrev writes : Writer (List ℕ) → Traced Slices → Out (Traced Slices)
   writes v m = with_entries m.entries (line_in v m.mach)
 
-  said_sheet : (v : Writer (List ℕ)) (a : Placed) (t' w' : List ℕ) → out_of a t' w' ≡ put_said t (Ok p.at) (v w) → with_entries (entries_of p.count l) (sheet_of n (out_of a t' w')) ≡ obind Here (writes v)
+  said_slices : (v : Writer (List ℕ)) (a : Placed) (t' w' : List ℕ) → out_of a t' w' ≡ put_said t (Ok p.at) (v w) → with_entries (entries_of p.count l) (slices_of n (out_of a t' w')) ≡ obind Here (writes v)
   unfolding line_in
-  said_sheet v a t' w' e = ap (λ q. with_entries (entries_of p.count l) (sheet_of n q)) e ∙ sym (run n t w l p (writes v))
+  said_slices v a t' w' e = ap (λ q. with_entries (entries_of p.count l) (slices_of n q)) e ∙ sym (run n t w l p (writes v))
 
-  pub said_goes : (v : Writer (List ℕ)) (a : ℕ) (t' w' : List ℕ) → out_of (Ok a) t' w' ≡ put_said t (Ok p.at) (v w) → noted_out n (Ok (record { at = a; count = p.count })) t' w' l ≡ obind Here (writes v)
-  unfolding noted_out
-  said_goes v a t' w' e = said_sheet v (Ok a) t' w' e
+  pub said_goes : (v : Writer (List ℕ)) (a : ℕ) (t' w' : List ℕ) → out_of (Ok a) t' w' ≡ put_said t (Ok p.at) (v w) → traced_out n (Ok (record { at = a; count = p.count })) t' w' l ≡ obind Here (writes v)
+  unfolding traced_out
+  said_goes v a t' w' e = said_slices v (Ok a) t' w' e
 
-  pub said_halts : (v : Writer (List ℕ)) (c : Refusal) (r : Penned) (t' w' : List ℕ) → out_of (Err c) t' w' ≡ put_said t (Ok p.at) (v w) → IsErrAnd r (λ e. e ≡ c) → noted_out n r t' w' l ≡ obind Here (writes v)
+  pub said_halts : (v : Writer (List ℕ)) (c : Refusal) (r : Penned) (t' w' : List ℕ) → out_of (Err c) t' w' ≡ put_said t (Ok p.at) (v w) → IsErrAnd r (λ e. e ≡ c) → traced_out n r t' w' l ≡ obind Here (writes v)
   unfolding with_entries
   said_halts v c (Ok q) t' w' e i = absurd i
-  said_halts v c (Err d) t' w' e i = halts n d t' w' l ∙ ap (with_entries (entries_of p.count l)) (sym (plainly.halts n d t' w')) ∙ ap (λ (z : Refusal). with_entries (entries_of p.count l) (emit_out n (Err z) t' w')) i ∙ said_sheet v (Err c) t' w' e
+  said_halts v c (Err d) t' w' e i = halts n d t' w' l ∙ ap (with_entries (entries_of p.count l)) (sym (plainly.halts n d t' w')) ∙ ap (λ (z : Refusal). with_entries (entries_of p.count l) (emit_out n (Err z) t' w')) i ∙ said_slices v (Err c) t' w' e
 
   -- ---- a note
-  pub note_full : (room : ℕ) (e : Entry) → room ≤ p.count → noted_out n (Err TextFull) t w l ≡ obind Here (λ m. note_n room e m)
+  pub note_full : (room : ℕ) (e : Entry) → room ≤ p.count → traced_out n (Err TextFull) t w l ≡ obind Here (λ m. note_n room e m)
   unfolding note_n
-  note_full room e h = stop_sheet TextFull (λ m. note_n room e m) (rw (entries_length p.count l, le-ltb p.count room h, note_n))
+  note_full room e h = stop_slices TextFull (λ m. note_n room e m) (rw (entries_length p.count l, le-ltb p.count room h, note_n))
 
-  pub note_more : (e : Entry) (l' : List ℕ) → p.count < length l / 12 → l' ≡ entry_put l p.count e → noted_out n (Ok (record { at = p.at; count = p.count + 1 })) t w l' ≡ obind Here (λ m. note_n (length l / 12) e m)
+  pub note_more : (e : Entry) (l' : List ℕ) → p.count < length l / 12 → l' ≡ entry_put l p.count e → traced_out n (Ok (record { at = p.at; count = p.count + 1 })) t w l' ≡ obind Here (λ m. note_n (length l / 12) e m)
   unfolding note_n
   note_more e l' h el =
       goes n (record { at = p.at; count = p.count + 1 }) t w l'
-      ∙ ap (λ (es : List Entry). wrote (record { mach = sheet n p.at t w; entries = es })) (ap (entries_of (p.count + 1)) el ∙ entries_more p.count l e h)
+      ∙ ap (λ (es : List Entry). wrote (record { mach = slices n p.at t w; entries = es })) (ap (entries_of (p.count + 1)) el ∙ entries_more p.count l e h)
       ∙ sym (run n t w l p (λ m. note_n (length l / 12) e m) ∙ rw (entries_length p.count l, lt-ltb p.count (length l / 12) h, note_n))
 
-  pub note_by : (o : Origin) (v room : ℕ) (x : Out (Noted Sheet)) → v ≡ cause_code o.cause → x ≡ obind Here (λ m. note_n room (entry o.id v o.leader) m) → x ≡ obind Here (λ m. note_n room (entry_of o) m)
+  pub note_by : (o : Origin) (v room : ℕ) (x : Out (Traced Slices)) → v ≡ cause_code o.cause → x ≡ obind Here (λ m. note_n room (entry o.id v o.leader) m) → x ≡ obind Here (λ m. note_n room (entry_of o) m)
   note_by o v room x e h = h ∙ ap (λ (k : ℕ). obind Here (λ m. note_n room (entry o.id k o.leader) m)) e
 
-  pub noteif_yes : (f : Bool) (room : ℕ) (e : Entry) (x : Out (Noted Sheet)) → f ≡ true → x ≡ obind Here (λ m. note_n room e m) → x ≡ obind Here (λ m. note_if_n f room e m)
+  pub noteif_yes : (f : Bool) (room : ℕ) (e : Entry) (x : Out (Traced Slices)) → f ≡ true → x ≡ obind Here (λ m. note_n room e m) → x ≡ obind Here (λ m. note_if_n f room e m)
   unfolding note_if_n
   noteif_yes f room e x h ex = ex ∙ ap (λ (g : Bool). obind Here (λ m. note_if_n g room e m)) (sym h)
 
   pub noteif_no : (f : Bool) (room : ℕ) (e : Entry) → f ≡ false → Here ≡ obind Here (λ m. note_if_n f room e m)
   unfolding note_if_n
-  noteif_no f room e h = same_sheet (λ m. note_if_n f room e m) (ap (λ (g : Bool). note_if_n g room e (paper n p t w l)) h)
+  noteif_no f room e h = same_slices (λ m. note_if_n f room e m) (ap (λ (g : Bool). note_if_n g room e (traced_at n p t w l)) h)
 
 -- ---- a line: the note, and what is said
-line_is : (f : Bool) (room : ℕ) (e : Entry) (v : Writer (List ℕ)) (m : Noted Sheet) → obind (note_if_n f room e m) (λ k. with_entries k.entries (line_in v k.mach)) ≡ line (up_to room) f e (λ k. line_in v k) m
+line_is : (f : Bool) (room : ℕ) (e : Entry) (v : Writer (List ℕ)) (m : Traced Slices) → obind (note_if_n f room e m) (λ k. with_entries k.entries (line_in v k.mach)) ≡ line (up_to room) f e (λ k. line_in v k) m
 unfolding note_if_n note_n obind line
 line_is false room e v m = refl
 line_is true room e v m = go (ltb (length m.entries) room)
   where
-    go : (x : Bool) → obind (elim x as (λ z. Out (Noted Sheet)) [ true ↦ wrote (record { mach = m.mach; entries = m.entries ++ (e ∷ []) }) | false ↦ stuck 17 ]) (λ k. with_entries k.entries (line_in v k.mach))
-        ≡ (elim x as (λ z. Out (Noted Sheet)) [ true ↦ with_entries (m.entries ++ (e ∷ [])) (line_in v m.mach) | false ↦ stuck 17 ])
+    go : (x : Bool) → obind (elim x as (λ z. Out (Traced Slices)) [ true ↦ wrote (record { mach = m.mach; entries = m.entries ++ (e ∷ []) }) | false ↦ stuck 17 ]) (λ k. with_entries k.entries (line_in v k.mach))
+        ≡ (elim x as (λ z. Out (Traced Slices)) [ true ↦ with_entries (m.entries ++ (e ∷ [])) (line_in v m.mach) | false ↦ stuck 17 ])
     go true = refl
     go false = refl
 
 -- a line: its entry, and what the writer says
-pub line_shown : (o x : Out (Noted Sheet)) (f g : Bool) (lent : Lent) (e : Entry) (v : Writer (List ℕ)) (y : Out (Noted Sheet)) → f ≡ (lent.lists && g) → y ≡ obind o (λ m. note_if_n f lent.room e m)
+pub line_shown : (o x : Out (Traced Slices)) (f g : Bool) (lent : Lent) (e : Entry) (v : Writer (List ℕ)) (y : Out (Traced Slices)) → f ≡ (lent.lists && g) → y ≡ obind o (λ m. note_if_n f lent.room e m)
     → x ≡ obind y (λ m. with_entries m.entries (line_in v m.mach)) → x ≡ obind o (λ m. line_n lent g e v m)
 unfolding line_n
 line_shown o x f g lent e v y fg ey ex =
@@ -306,30 +306,30 @@ pub and_true : (f : Bool) → f ≡ (f && true)
 and_true f = sym (and-true f)
 
 -- ---- what is kept where a call ended with a pen
-pub kept_by : {X : Type 0} → (P : List ℕ → X) (n : ℕ) (a : Pen) (t₁ w₁ l₁ w : List ℕ) → Stays P w (noted_out n (Ok a) t₁ w₁ l₁) → P w₁ ≡ P w
-kept_by P n a t₁ w₁ l₁ w h = go (noted_out n (Ok a) t₁ w₁ l₁) h (goes n a t₁ w₁ l₁)
+pub kept_by : {X : Type 0} → (P : List ℕ → X) (n : ℕ) (a : Pen) (t₁ w₁ l₁ w : List ℕ) → Stays P w (traced_out n (Ok a) t₁ w₁ l₁) → P w₁ ≡ P w
+kept_by P n a t₁ w₁ l₁ w h = go (traced_out n (Ok a) t₁ w₁ l₁) h (goes n a t₁ w₁ l₁)
   where
-    same_wrote : (m m' : Noted Sheet) → wrote m ≡ wrote m' → m ≡ m'
+    same_wrote : (m m' : Traced Slices) → wrote m ≡ wrote m' → m ≡ m'
     same_wrote m m' e = cc
 
-    no : (c : ℕ) (m : Noted Sheet) → stuck c ≡ wrote m → ⊥
+    no : (c : ℕ) (m : Traced Slices) → stuck c ≡ wrote m → ⊥
     no c m e = let k : ◌≡◌ {A = ℕ} 0 1 = cc in omega arith
 
-    go : (o : Out (Noted Sheet)) → Stays P w o → o ≡ wrote (paper n a t₁ w₁ l₁) → P w₁ ≡ P w
-    go (wrote m) (on e) q = ap (λ (y : Noted Sheet). P y.mach.work) (sym (same_wrote m (paper n a t₁ w₁ l₁) q)) ∙ e
-    go (stuck c) off q = absurd (no c (paper n a t₁ w₁ l₁) q)
+    go : (o : Out (Traced Slices)) → Stays P w o → o ≡ wrote (traced_at n a t₁ w₁ l₁) → P w₁ ≡ P w
+    go (wrote m) (on e) q = ap (λ (y : Traced Slices). P y.mach.work) (sym (same_wrote m (traced_at n a t₁ w₁ l₁) q)) ∙ e
+    go (stuck c) off q = absurd (no c (traced_at n a t₁ w₁ l₁) q)
 
 -- ---- the table after a call is the table before it
 module _ (b : TypeTable) (s : List ℕ) where
-  pub same_table : (n : ℕ) (a : Penned) (t₁ w₁ l₁ w : List ℕ) (k : Rules → Noted Sheet → Out (Noted Sheet)) → Stays (btf_of b s) w (noted_out n a t₁ w₁ l₁)
-      → obind (noted_out n a t₁ w₁ l₁) (k (btf_of b s w₁)) ≡ obind (noted_out n a t₁ w₁ l₁) (k (btf_of b s w))
-  same_table n a t₁ w₁ l₁ w k h = at_sheet n a t₁ w₁ l₁ (k (btf_of b s w₁)) (k (btf_of b s w))
-      (λ q e. ap (λ (B : Rules). k B (paper n q t₁ w₁ l₁)) (kept_by (btf_of b s) n q t₁ w₁ l₁ w (subst (λ (r : Penned). Stays (btf_of b s) w (noted_out n r t₁ w₁ l₁)) e h)))
+  pub same_table : (n : ℕ) (a : Penned) (t₁ w₁ l₁ w : List ℕ) (k : Rules → Traced Slices → Out (Traced Slices)) → Stays (btf_of b s) w (traced_out n a t₁ w₁ l₁)
+      → obind (traced_out n a t₁ w₁ l₁) (k (btf_of b s w₁)) ≡ obind (traced_out n a t₁ w₁ l₁) (k (btf_of b s w))
+  same_table n a t₁ w₁ l₁ w k h = at_slices n a t₁ w₁ l₁ (k (btf_of b s w₁)) (k (btf_of b s w))
+      (λ q e. ap (λ (B : Rules). k B (traced_at n q t₁ w₁ l₁)) (kept_by (btf_of b s) n q t₁ w₁ l₁ w (subst (λ (r : Penned). Stays (btf_of b s) w (traced_out n r t₁ w₁ l₁)) e h)))
 
-  pub entry_stays : {X : Type 0} → (P : List ℕ → X) (n : ℕ) (p : Pen) (t w l : List ℕ) → Stays P w (noted_out n (Ok p) t w l)
+  pub entry_stays : {X : Type 0} → (P : List ℕ → X) (n : ℕ) (p : Pen) (t w l : List ℕ) → Stays P w (traced_out n (Ok p) t w l)
   entry_stays P n p t w l = subst (Stays P w) (sym (goes n p t w l)) (on refl)
 
   pub called_stays : (n : ℕ) (p : Pen) (t w l : List ℕ) (a : Penned) (t₁ w₁ l₁ : List ℕ) (B : Rules) (lent : Lent) (why : ℕ → Entry) (y left cont : ℕ)
-      → noted_out n a t₁ w₁ l₁ ≡ obind (noted_out n (Ok p) t w l) (λ m. emit_n b B lent why left cont m y) → Stays (btf_of b s) w (noted_out n a t₁ w₁ l₁)
+      → traced_out n a t₁ w₁ l₁ ≡ obind (traced_out n (Ok p) t w l) (λ m. emit_n b B lent why left cont m y) → Stays (btf_of b s) w (traced_out n a t₁ w₁ l₁)
   called_stays n p t w l a t₁ w₁ l₁ B lent why y left cont e =
-      subst (Stays (btf_of b s) w) (sym e) (stays_then (btf_of b s) w (noted_out n (Ok p) t w l) (λ m. emit_n b B lent why left cont m y) (entry_stays (btf_of b s) n p t w l) (λ m. table_emit b s B lent why left m y cont))
+      subst (Stays (btf_of b s) w) (sym e) (stays_then (btf_of b s) w (traced_out n (Ok p) t w l) (λ m. emit_n b B lent why left cont m y) (entry_stays (btf_of b s) n p t w l) (λ m. table_emit b s B lent why left m y cont))

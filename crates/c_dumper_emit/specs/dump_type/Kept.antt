@@ -6,15 +6,15 @@ use Rattle.spec_c_dumper.specs.ceiling.Ceiling.{Limit, Told, told, halted}
 use Rattle.spec_c_dumper.specs.rules.Machine.{Out, wrote, stuck, obind, eeach}
 use Rattle.spec_c_dumper.specs.rules.Types.{Btf as Rules, table_of}
 use Rattle.spec_type_table.specs.declared.types.TypeTable.{TypeTable}
-use Rattle.spec_session.specs.emission.Sheet.{Sheet, marks_in, with_marks, sheet_store, work_machine}
-use Rattle.spec_c_dumper.specs.origins.Causes.{Noted}
+use Rattle.spec_session.specs.emission.Slices.{Slices, marks_in, with_marks, slices_store, work_machine}
+use Rattle.spec_c_dumper.specs.origins.Causes.{Traced}
 use Rattle.c_dumper_dependency_order.specs.declared.leaders.Way.{Way}
-use Rattle.c_dumper_dependency_order.specs.leaders.Leads.{word_at, MarksAndLeaders, order_kept, entry_in}
-use Rattle.c_dumper_emit.specs.entries.Noted.{Lent, emit_n}
+use Rattle.c_dumper_dependency_order.specs.leaders.Leaders.{word_at, MarksAndLeaders, order_kept, entry_in}
+use Rattle.c_dumper_emit.specs.entries.Traced.{Lent, emit_n}
 
 -- before the first request of a call
-unfoldable pub no_leads : List ℕ
-no_leads = replicate 262145 0
+unfoldable pub no_leaders : List ℕ
+no_leaders = replicate 262145 0
 
 -- all that is noted was noted before this turn
 unfoldable pub Before : ℕ → List ℕ → Type 0
@@ -26,35 +26,35 @@ way_to id turn = record { inner = id; lead = id; turn = turn }
 
 -- a sheet with the entries so far, and the leaders
 pub record Beside : Type 0 where
-  pub noted : Noted Sheet
-  pub leads : List ℕ
+  pub traced : Traced Slices
+  pub leaders : List ℕ
 
 -- after a refusal nothing is said of them
-unfoldable pub with_leads : List ℕ → Out (Noted Sheet) → Out Beside
-with_leads l (wrote m) = wrote (record { noted = m; leads = l })
-with_leads l (stuck c) = stuck c
+unfoldable pub with_leaders : List ℕ → Out (Traced Slices) → Out Beside
+with_leaders l (wrote m) = wrote (record { traced = m; leaders = l })
+with_leaders l (stuck c) = stuck c
 
 -- ordering as a request starts it, after so many calls
-unfoldable pub ordered_kept : Rules → Limit → Sheet → List ℕ → ℕ → ℕ → ℕ → Told MarksAndLeaders
+unfoldable pub ordered_kept : Rules → Limit → Slices → List ℕ → ℕ → ℕ → ℕ → Told MarksAndLeaders
 ordered_kept B lim m l id turn made =
-    order_kept lim (way_to id turn) 512 (table_of B) (record { marks = marks_in m; leads = l }) id false made
+    order_kept lim (way_to id turn) 512 (table_of B) (record { marks = marks_in m; leaders = l }) id false made
 
 module _ (b : TypeTable) (B : Rules) (lent : Lent) where
   -- the sheet that ordering left, with the entries so far
-  abbrev pub beside_kept : Noted Sheet → MarksAndLeaders → Noted Sheet
+  abbrev pub beside_kept : Traced Slices → MarksAndLeaders → Traced Slices
   beside_kept m s = record { mach = with_marks m.mach s.marks; entries = m.entries }
 
-  unfoldable pub each_kept : ℕ → ℕ → Noted Sheet → MarksAndLeaders → Out (Noted Sheet)
+  unfoldable pub each_kept : ℕ → ℕ → Traced Slices → MarksAndLeaders → Out (Traced Slices)
   each_kept id turn m s =
-      eeach (emit_n b B lent (entry_in id turn s.leads) 512 0) (sheet_store.list (with_marks m.mach s.marks)) (beside_kept m s)
+      eeach (emit_n b B lent (entry_in id turn s.leaders) 512 0) (slices_store.list (with_marks m.mach s.marks)) (beside_kept m s)
 
-  unfoldable pub listed_kept : ℕ → ℕ → Noted Sheet → Told MarksAndLeaders → Out Beside
+  unfoldable pub listed_kept : ℕ → ℕ → Traced Slices → Told MarksAndLeaders → Out Beside
   listed_kept id turn m (told s strong made) =
-      with_leads s.leads (obind (each_kept id turn m s) (λ k. wrote (record {
+      with_leaders s.leaders (obind (each_kept id turn m s) (λ k. wrote (record {
         mach = (work_machine b B).start 0 k.mach;
         entries = k.entries;
       })))
   listed_kept id turn m (halted c made) = stuck c
 
   unfoldable pub dumped_kept : Limit → Beside → ℕ → ℕ → ℕ → Out Beside
-  dumped_kept lim m id turn made = listed_kept id turn m.noted (ordered_kept B lim m.noted.mach m.leads id turn made)
+  dumped_kept lim m id turn made = listed_kept id turn m.traced (ordered_kept B lim m.traced.mach m.leaders id turn made)

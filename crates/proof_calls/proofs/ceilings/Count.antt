@@ -30,7 +30,7 @@ use Rattle.spec_session.specs.session.Turns.{table_for}
 use Rattle.spec_session.specs.metered.Metered.{calls_in}
 use Rattle.proof_demands.specs.demands.Table.{header_of, opened_table, names_in, machine_in}
 use Rattle.proof_demands.specs.demands.Session.{Holds}
-use Rattle.proof_demands.specs.demands.Sheet.{Bears}
+use Rattle.proof_demands.specs.demands.Representation.{Bears}
 use Rattle.proof_demands.specs.demands.Demands.{types_in}
 use Rattle.proof_demands.proofs.demands.Named.{opened_indexed}
 use Rattle.proof_demands.proofs.demands.Sound.{opened_wf}

@@ -13,8 +13,8 @@ use Rattle.spec_c_dumper.specs.needs.Needs.{kids}
 use Rattle.spec_c_dumper.proofs.needs.Ways.{tally}
 use Rattle.spec_c_dumper.proofs.needs.Emission.{AlikeSteps}
 use Rattle.spec_c_dumper.proofs.needs.Alike.{AlikeMachine, Live, BothOut, both_wrote, both_stuck, BothSess, BothAnswer}
-use Rattle.spec_c_dumper.specs.origins.Causes.{Led, listed_entry, Noted, each_listed, Explaining, untold, dropped, emitted_noted, ordered_noted, gate_noted, single_noted, onward_noted, list_noted, from_noted, every_noted, up_to, entries_in, filled, Causes, causes_of, one_causes, list_causes, all_causes}
-use Rattle.proof_calls.proofs.line_origins.Ordering.{BothLed, both_led, neither_led, order_led_alike}
+use Rattle.spec_c_dumper.specs.origins.Causes.{WithLeaders, listed_entry, Traced, each_listed, Explaining, untold, dropped, emitted_traced, ordered_traced, gate_traced, single_traced, onward_traced, list_traced, from_traced, every_traced, up_to, entries_in, filled, Causes, causes_of, one_causes, list_causes, all_causes}
+use Rattle.proof_calls.proofs.line_origins.Ordering.{BothLeaders, both_leaders, neither_leader, order_with_leaders_alike}
 use Rattle.proof_calls.proofs.line_origins.Emission.{SameNoted, listed_alike}
 
 -- the same answer and the same entries
@@ -66,8 +66,8 @@ module _ {M₁ M : Type 0} (X₁ : Machine M₁) (X : Machine M) (T : Table) (Go
         same_zeroed = refl;
       }
 
-      emitted_alike : (x : ℕ) {r₁ : Out (Noted M₁)} {r : Out (Noted M)} → BothOut (SameNoted Q) r₁ r → BothTold Q (emitted_noted X₁ T more shows t₁ x r₁) (emitted_noted X T more shows t x r)
-      unfolding emitted_noted
+      emitted_alike : (x : ℕ) {r₁ : Out (Traced M₁)} {r : Out (Traced M)} → BothOut (SameNoted Q) r₁ r → BothTold Q (emitted_traced X₁ T more shows t₁ x r₁) (emitted_traced X T more shows t x r)
+      unfolding emitted_traced
       emitted_alike x (both_wrote m₁ m q) = record {
         answers = record { same_number = refl; sessions = record { same_open = refl; same_asked = ap (λ (k : List ℕ). k ++ (x ∷ [])) h.answers.sessions.same_asked; alike = q.related } };
         same_entries = q.same_entries;
@@ -75,36 +75,36 @@ module _ {M₁ M : Type 0} (X₁ : Machine M₁) (X : Machine M) (T : Table) (Go
       }
       emitted_alike x (both_stuck e) = dropped_alike e
 
-      ordered_alike : (x : ℕ) {r₁ : Res (Led M₁)} {r : Res (Led M)} → BothLed Lives r₁ r → BothTold Q (ordered_noted X₁ T more shows t₁ x r₁) (ordered_noted X T more shows t x r)
-      unfolding ordered_noted
-      ordered_alike x (both_led m₁ m c w q) =
-          let n₁ : Noted M₁ = record { mach = m₁.state; entries = t₁.entries } in
-          let n : Noted M = record { mach = m.state; entries = t.entries } in
+      ordered_alike : (x : ℕ) {r₁ : Res (WithLeaders M₁)} {r : Res (WithLeaders M)} → BothLeaders Lives r₁ r → BothTold Q (ordered_traced X₁ T more shows t₁ x r₁) (ordered_traced X T more shows t x r)
+      unfolding ordered_traced
+      ordered_alike x (both_leaders m₁ m c w q) =
+          let n₁ : Traced M₁ = record { mach = m₁.state; entries = t₁.entries } in
+          let n : Traced M = record { mach = m.state; entries = t.entries } in
           emitted_alike x
-          (subst (λ (k : List ℕ). BothOut (SameNoted Q) (each_listed X₁ T more shows (listed_entry x m₁.led) k n₁) (each_listed X T more shows (listed_entry x m.led) (X.store.list m.state) n)) (sym (al.a_list m₁.state m.state w.related))
-          (subst (λ (k : List (ℕ × ℕ)). BothOut (SameNoted Q) (each_listed X₁ T more shows (listed_entry x k) (X.store.list m.state) n₁) (each_listed X T more shows (listed_entry x m.led) (X.store.list m.state) n)) (sym q)
-          (listed_alike X₁ X T below Q steps more shows (listed_entry x m.led) (X.store.list m.state) w.ids n₁ n (record { related = w.related; same_entries = h.same_entries }))))
-      ordered_alike x (neither_led e) = dropped_alike e
+          (subst (λ (k : List ℕ). BothOut (SameNoted Q) (each_listed X₁ T more shows (listed_entry x m₁.leaders) k n₁) (each_listed X T more shows (listed_entry x m.leaders) (X.store.list m.state) n)) (sym (al.a_list m₁.state m.state w.related))
+          (subst (λ (k : List (ℕ × ℕ)). BothOut (SameNoted Q) (each_listed X₁ T more shows (listed_entry x k) (X.store.list m.state) n₁) (each_listed X T more shows (listed_entry x m.leaders) (X.store.list m.state) n)) (sym q)
+          (listed_alike X₁ X T below Q steps more shows (listed_entry x m.leaders) (X.store.list m.state) w.ids n₁ n (record { related = w.related; same_entries = h.same_entries }))))
+      ordered_alike x (neither_leader e) = dropped_alike e
 
-      gate_alike : (room x : ℕ) (o b : Bool) → ltb x T.count ≡ b → BothTold Q (gate_noted X₁ T more shows room t₁ x o b) (gate_noted X T more shows room t x o b)
-      unfolding gate_noted
+      gate_alike : (room x : ℕ) (o b : Bool) → ltb x T.count ≡ b → BothTold Q (gate_traced X₁ T more shows room t₁ x o b) (gate_traced X T more shows room t x o b)
+      unfolding gate_traced
       gate_alike room x false b e = record { answers = record { same_number = refl; sessions = h.answers.sessions }; same_entries = h.same_entries; same_zeroed = h.same_zeroed }
       gate_alike room x true false e = record { answers = record { same_number = refl; sessions = h.answers.sessions }; same_entries = h.same_entries; same_zeroed = h.same_zeroed }
       gate_alike room x true true e =
           ordered_alike x
-          (order_led_alike X₁.store X.store T Good ml.law (OrderKeeps X Good) ml.framed below Q al.a_store x
-          512 [] (record { state = X₁.start room t₁.answer.sess.mach; led = [] }) (record { state = X.start room t.answer.sess.mach; led = [] }) x false
+          (order_with_leaders_alike X₁.store X.store T Good ml.law (OrderKeeps X Good) ml.framed below Q al.a_store x
+          512 [] (record { state = X₁.start room t₁.answer.sess.mach; leaders = [] }) (record { state = X.start room t.answer.sess.mach; leaders = [] }) x false
           (start_live room t₁.answer.sess.mach t.answer.sess.mach h.answers.sessions.alike) refl (ltb→lt x T.count (subst True (sym e) tt)))
 
-      single_alike : (room x : ℕ) → BothTold Q (single_noted X₁ T more shows room x t₁) (single_noted X T more shows room x t)
-      unfolding single_noted
+      single_alike : (room x : ℕ) → BothTold Q (single_traced X₁ T more shows room x t₁) (single_traced X T more shows room x t)
+      unfolding single_traced
       single_alike room x =
-          subst (λ (o : Bool). BothTold Q (gate_noted X₁ T more shows room t₁ x o (ltb x T.count)) (gate_noted X T more shows room t x t.answer.sess.is_open (ltb x T.count))) (sym h.answers.sessions.same_open)
+          subst (λ (o : Bool). BothTold Q (gate_traced X₁ T more shows room t₁ x o (ltb x T.count)) (gate_traced X T more shows room t x t.answer.sess.is_open (ltb x T.count))) (sym h.answers.sessions.same_open)
           (gate_alike room x t.answer.sess.is_open (ltb x T.count) refl)
 
     onward_alike : (k₁ : Explaining M₁ → Explaining M₁) (k : Explaining M → Explaining M) (t₁ : Explaining M₁) (t : Explaining M) → BothTold Q t₁ t → BothTold Q (k₁ t₁) (k t)
-        → BothTold Q (onward_noted X₁ T more shows k₁ t₁) (onward_noted X T more shows k t)
-    unfolding onward_noted
+        → BothTold Q (onward_traced X₁ T more shows k₁ t₁) (onward_traced X T more shows k t)
+    unfolding onward_traced
     onward_alike k₁ k t₁ t h q =
         subst (λ (n : ℕ). BothTold Q (elim n as (λ (m : ℕ). Explaining M₁) [ zero ↦ k₁ t₁ | suc m ↦ t₁ ]) (elim t.answer.number as (λ (m : ℕ). Explaining M) [ zero ↦ k t | suc m ↦ t ])) (sym h.answers.same_number)
         (go t.answer.number)
@@ -113,24 +113,24 @@ module _ {M₁ M : Type 0} (X₁ : Machine M₁) (X : Machine M) (T : Table) (Go
         go zero = q
         go (suc m) = h
 
-    list_alike : (room : ℕ) (xs : List ℕ) (t₁ : Explaining M₁) (t : Explaining M) → BothTold Q t₁ t → BothTold Q (list_noted X₁ T more shows room xs t₁) (list_noted X T more shows room xs t)
-    unfolding list_noted
+    list_alike : (room : ℕ) (xs : List ℕ) (t₁ : Explaining M₁) (t : Explaining M) → BothTold Q t₁ t → BothTold Q (list_traced X₁ T more shows room xs t₁) (list_traced X T more shows room xs t)
+    unfolding list_traced
     list_alike room [] t₁ t h = h
     list_alike room (x ∷ xs) t₁ t h =
         let q = single_alike t₁ t h room x in
-        onward_alike (list_noted X₁ T more shows room xs) (list_noted X T more shows room xs) (single_noted X₁ T more shows room x t₁) (single_noted X T more shows room x t) q
-        (list_alike room xs (single_noted X₁ T more shows room x t₁) (single_noted X T more shows room x t) q)
+        onward_alike (list_traced X₁ T more shows room xs) (list_traced X T more shows room xs) (single_traced X₁ T more shows room x t₁) (single_traced X T more shows room x t) q
+        (list_alike room xs (single_traced X₁ T more shows room x t₁) (single_traced X T more shows room x t) q)
 
-    from_alike : (room n x : ℕ) (t₁ : Explaining M₁) (t : Explaining M) → BothTold Q t₁ t → BothTold Q (from_noted X₁ T more shows room n x t₁) (from_noted X T more shows room n x t)
-    unfolding from_noted
+    from_alike : (room n x : ℕ) (t₁ : Explaining M₁) (t : Explaining M) → BothTold Q t₁ t → BothTold Q (from_traced X₁ T more shows room n x t₁) (from_traced X T more shows room n x t)
+    unfolding from_traced
     from_alike room zero x t₁ t h = h
     from_alike room (suc n) x t₁ t h =
         let q = single_alike t₁ t h room x in
-        onward_alike (from_noted X₁ T more shows room n (suc x)) (from_noted X T more shows room n (suc x)) (single_noted X₁ T more shows room x t₁) (single_noted X T more shows room x t) q
-        (from_alike room n (suc x) (single_noted X₁ T more shows room x t₁) (single_noted X T more shows room x t) q)
+        onward_alike (from_traced X₁ T more shows room n (suc x)) (from_traced X T more shows room n (suc x)) (single_traced X₁ T more shows room x t₁) (single_traced X T more shows room x t) q
+        (from_alike room n (suc x) (single_traced X₁ T more shows room x t₁) (single_traced X T more shows room x t) q)
 
-    every_alike : (room : ℕ) (S₁ : Sess M₁) (S : Sess M) → BothSess Q S₁ S → (b : Bool) → BothTold Q (every_noted X₁ T more shows room S₁ b) (every_noted X T more shows room S b)
-    unfolding every_noted
+    every_alike : (room : ℕ) (S₁ : Sess M₁) (S : Sess M) → BothSess Q S₁ S → (b : Bool) → BothTold Q (every_traced X₁ T more shows room S₁ b) (every_traced X T more shows room S b)
+    unfolding every_traced
     every_alike room S₁ S h false = record { answers = record { same_number = refl; sessions = h }; same_entries = refl; same_zeroed = refl }
     every_alike room S₁ S h true =
         from_alike room (T.count - 1) 1 (record { answer = record { sess = S₁; number = 0 }; entries = []; zeroed = true }) (record { answer = record { sess = S; number = 0 }; entries = []; zeroed = true })
@@ -160,5 +160,5 @@ module _ {M₁ M : Type 0} (X₁ : Machine M₁) (X : Machine M) (T : Table) (Go
     pub all_causes_lem : BothCauses Q (all_causes X₁ T shows l room S₁) (all_causes X T shows l room S)
     unfolding all_causes
     all_causes_lem =
-        subst (λ (o : Bool). BothCauses Q (causes_of l (every_noted X₁ T (up_to (entries_in l)) shows room S₁ o)) (causes_of l (every_noted X T (up_to (entries_in l)) shows room S S.is_open))) (sym h.same_open)
+        subst (λ (o : Bool). BothCauses Q (causes_of l (every_traced X₁ T (up_to (entries_in l)) shows room S₁ o)) (causes_of l (every_traced X T (up_to (entries_in l)) shows room S S.is_open))) (sym h.same_open)
         (causes_alike l _ _ (every_alike (up_to (entries_in l)) room S₁ S h S.is_open))

@@ -29,8 +29,8 @@ use Rattle.proof_demands.specs.demands.Table.{header_of, opened_table, machine_i
 use Rattle.proof_demands.specs.demands.Session.{Holds}
 use Rattle.proof_demands.proofs.demands.Described.{count_described}
 use Rattle.proof_demands.proofs.demands.Session.{BothReach, both_reached, both_ended, Keeps, settle, table_is, types_is, going, current, type_keeps, types_keeps}
-use Rattle.spec_c_dumper.specs.origins.Causes.{Entry, up_to, shows_in, filled, entries_in, Explaining, untold, gate_noted, single_noted, every_noted, causes_of}
-use Rattle.spec_session.specs.origin_calls.Bytes.{CauseCall, Reached, requested_noted, requested_from_noted, settled_noted, left_alone, type_causes, types_causes}
+use Rattle.spec_c_dumper.specs.origins.Causes.{Entry, up_to, shows_in, filled, entries_in, Explaining, untold, gate_traced, single_traced, every_traced, causes_of}
+use Rattle.spec_session.specs.origin_calls.Bytes.{CauseCall, Reached, requested_traced, requested_from_traced, settled_traced, left_alone, type_causes, types_causes}
 use Rattle.spec_c_dumper.proofs.origins.Requests.{filled_listed}
 use Rattle.spec_session.proofs.origins_after.Shift.{behind, requested_shift}
 use Rattle.proof_calls.specs.line_origins.Claims.{Agrees}
@@ -90,10 +90,10 @@ module _ (p modes : ℕ) (s : List ℕ) (n : ℕ) (ok : opening_number p s n ≡
     -- ---- one id
     module _ (x : ℕ) (l : List ℕ) (c : ℕ) (room_is : c ≡ length es + entries_in l) where
       abbrev single' : Explaining State
-      single' = single_noted X T (up_to c) (shows_in B) (length text) x told
+      single' = single_traced X T (up_to c) (shows_in B) (length text) x told
 
       abbrev came_to : Reached
-      came_to = requested_noted (up_to (entries_in l)) b s x [] S.text_len S.visits work text
+      came_to = requested_traced (up_to (entries_in l)) b s x [] S.text_len S.visits work text
 
       -- 10 and 11
       left_step : (k : ℕ) → (k ≡ 0 → ⊥) → (d : Call) → type_call S s work text x ≡ d → single X T (length text) L x ≡ record { sess = L; number = k } → Stepped (length text) told l (left_alone d l) (record { answer = record { sess = L; number = k }; entries = es; zeroed = told.zeroed })
@@ -113,24 +113,24 @@ module _ (p modes : ℕ) (s : List ℕ) (n : ℕ) (ok : opening_number p s n ≡
       along {d} {d'} {t} {t'} q r k = subst (λ (y : CauseCall). At y t) (sym q) (subst (At d') (sym r) k)
 
       step_closed : L.is_open ≡ false → At (type_causes S s work text x l) single'
-      unfolding type_causes type_call single gate single_noted gate_noted
+      unfolding type_causes type_call single gate single_traced gate_traced
       step_closed o =
           let u : is_current S (length s) (length work) (length text) ≡ false = closed_stays S s work text (h.is_open ∙ o) in
-          along (rw (u, type_causes)) (ap (λ (z : Bool). gate_noted X T (up_to c) (shows_in B) (length text) told x z (ltb x T.count)) o)
+          along (rw (u, type_causes)) (ap (λ (z : Bool). gate_traced X T (up_to c) (shows_in B) (length text) told x z (ltb x T.count)) o)
           (left_step 11 (λ z. omega arith) (unchanged S (refusal not_current S.text_len) work text) (rw (u, type_call)) (ap (λ (z : Bool). gate X T (length text) L x z (ltb x T.count)) o))
 
       step_past : L.is_open ≡ true → T.count ≤ x → At (type_causes S s work text x l) single'
-      unfolding type_causes type_call single gate single_noted gate_noted
+      unfolding type_causes type_call single gate single_traced gate_traced
       step_past o j =
           let u : is_current S (length s) (length work) (length text) ≡ true = current p modes s n ok S work text₀ L h text f same o in
           let y : S.types ≤ x = subst (λ (k : ℕ). k ≤ x) (sym (types_is p modes s n ok S work text₀ L h text f same)) j in
           along (rw (u, type_causes, le-ltb x S.types y))
-          (ap (λ (z : Bool). gate_noted X T (up_to c) (shows_in B) (length text) told x z (ltb x T.count)) o ∙ ap (gate_noted X T (up_to c) (shows_in B) (length text) told x true) (le-ltb x T.count j))
+          (ap (λ (z : Bool). gate_traced X T (up_to c) (shows_in B) (length text) told x z (ltb x T.count)) o ∙ ap (gate_traced X T (up_to c) (shows_in B) (length text) told x true) (le-ltb x T.count j))
           (left_step 10 (λ z. omega arith) (unchanged S (refusal id_not_below S.text_len) work text) (rw (u, type_call, le-ltb x S.types y))
           (ap (λ (z : Bool). gate X T (length text) L x z (ltb x T.count)) o ∙ ap (gate X T (length text) L x true) (le-ltb x T.count j)))
 
-      settled_step : BothCame p modes s n ok c (length text) (behind es came_to) single' → L.is_open ≡ true → At (settled_noted S (length work) (length text) l came_to) single'
-      unfolding settled_noted
+      settled_step : BothCame p modes s n ok c (length text) (behind es came_to) single' → L.is_open ≡ true → At (settled_traced S (length work) (length text) l came_to) single'
+      unfolding settled_traced
       settled_step k o = record {
         keeps = settle p modes s n ok S work text₀ L h (h.bears o).names.kept.long (length text) k.reaches;
         goes_on = reach_open k.reaches;
@@ -153,10 +153,10 @@ module _ (p modes : ℕ) (s : List ℕ) (n : ℕ) (ok : opening_number p s n ≡
           let y : x < S.types = subst (λ (k : ℕ). x < k) (sym (types_is p modes s n ok S work text₀ L h text f same)) j in
           let few : length es ≤ c = omega arith in
           let left : c - length es ≡ entries_in l = omega arith in
-          let open_is : type_causes S s work text x l ≡ settled_noted S (length work) (length text) l (requested_noted (up_to (entries_in l)) (table_for S s) s x [] S.text_len S.visits work text) = rw (u, type_causes, lt-ltb x S.types y) in
-          along (open_is ∙ ap (λ (K : TypeTable). settled_noted S (length work) (length text) l (requested_noted (up_to (entries_in l)) K s x [] S.text_len S.visits work text)) (table_is p modes s n ok S work text₀ L h text f same)) refl
+          let open_is : type_causes S s work text x l ≡ settled_traced S (length work) (length text) l (requested_traced (up_to (entries_in l)) (table_for S s) s x [] S.text_len S.visits work text) = rw (u, type_causes, lt-ltb x S.types y) in
+          along (open_is ∙ ap (λ (K : TypeTable). settled_traced S (length work) (length text) l (requested_traced (up_to (entries_in l)) K s x [] S.text_len S.visits work text)) (table_is p modes s n ok S work text₀ L h text f same)) refl
           (settled_step (subst (λ (r : Reached). BothCame p modes s n ok c (length text) r single')
-          (requested_shift c b s x es S.text_len S.visits work text ∙ ap (λ (k : ℕ). behind es (requested_noted (up_to k) b s x [] S.text_len S.visits work text)) left)
+          (requested_shift c b s x es S.text_len S.visits work text ∙ ap (λ (k : ℕ). behind es (requested_traced (up_to k) b s x [] S.text_len S.visits work text)) left)
           (request_came p modes s n ok c told few S.text_len work text (length text) (going p modes s n ok S work text₀ L h text f same o) x j S.visits)) o)
 
       pub type_stepped : At (type_causes S s work text x l) single'
@@ -169,7 +169,7 @@ module _ (p modes : ℕ) (s : List ℕ) (n : ℕ) (ok : opening_number p s n ≡
     -- ---- all ids
     module _ (l : List ℕ) where
       abbrev every' : Explaining State
-      every' = every_noted X T (up_to (entries_in l)) (shows_in B) (length text) L L.is_open
+      every' = every_traced X T (up_to (entries_in l)) (shows_in B) (length text) L L.is_open
 
       abbrev Ends : CauseCall → Explaining State → Type 0
       Ends d t = Stepped (length text) (untold L) l d t
@@ -178,11 +178,11 @@ module _ (p modes : ℕ) (s : List ℕ) (n : ℕ) (ok : opening_number p s n ≡
       ends_along {d} {d'} {t} {t'} q r k = subst (λ (y : CauseCall). Ends y t) (sym q) (subst (Ends d') (sym r) k)
 
       all_closed : L.is_open ≡ false → Ends (types_causes S s work text l) every'
-      unfolding types_causes types_call every every_noted
+      unfolding types_causes types_call every every_traced
       all_closed o =
           let u : is_current S (length s) (length work) (length text) ≡ false = closed_stays S s work text (h.is_open ∙ o) in
           let q : types_call S s work text ≡ unchanged S (refusal not_current S.text_len) work text = rw (u, types_call) in
-          ends_along (rw (u, types_causes)) (ap (λ (z : Bool). every_noted X T (up_to (entries_in l)) (shows_in B) (length text) L z) o) (record {
+          ends_along (rw (u, types_causes)) (ap (λ (z : Bool). every_traced X T (up_to (entries_in l)) (shows_in B) (length text) L z) o) (record {
             keeps = subst (λ (y : Call). Keeps p modes s n ok (length text) y (record { sess = L; number = 11 })) q
                 (subst (Keeps p modes s n ok (length text) (types_call S s work text)) (ap (λ (z : Bool). every X T (length text) L z) o) (types_keeps p modes s n ok S work text₀ L h text f same));
             goes_on = λ z. absurd (let q : ◌≡◌ {A = ℕ} 11 0 = z in omega arith);
@@ -193,10 +193,10 @@ module _ (p modes : ℕ) (s : List ℕ) (n : ℕ) (ok : opening_number p s n ≡
           })
 
       abbrev came_all : Reached
-      came_all = requested_from_noted (up_to (entries_in l)) b s (T.count - 1) 1 [] S.text_len work text
+      came_all = requested_from_traced (up_to (entries_in l)) b s (T.count - 1) 1 [] S.text_len work text
 
-      settled_all : (t : Explaining State) → BothCame p modes s n ok (entries_in l) (length text) came_all t → L.is_open ≡ true → Ends (settled_noted S (length work) (length text) l came_all) t
-      unfolding settled_noted
+      settled_all : (t : Explaining State) → BothCame p modes s n ok (entries_in l) (length text) came_all t → L.is_open ≡ true → Ends (settled_traced S (length work) (length text) l came_all) t
+      unfolding settled_traced
       settled_all t k o = record {
         keeps = settle p modes s n ok S work text₀ L h (h.bears o).names.kept.long (length text) k.reaches;
         goes_on = reach_open k.reaches;
@@ -214,16 +214,16 @@ module _ (p modes : ℕ) (s : List ℕ) (n : ℕ) (ok : opening_number p s n ≡
       counted = refl
 
       all_open : L.is_open ≡ true → Ends (types_causes S s work text l) every'
-      unfolding types_causes every_noted
+      unfolding types_causes every_traced
       all_open o =
           let u : is_current S (length s) (length work) (length text) ≡ true = current p modes s n ok S work text₀ L h text f same o in
-          let open_is : types_causes S s work text l ≡ settled_noted S (length work) (length text) l (requested_from_noted (up_to (entries_in l)) (table_for S s) s ((table_for S s).types - 1) 1 [] S.text_len work text) = rw (u, types_causes) in
+          let open_is : types_causes S s work text l ≡ settled_traced S (length work) (length text) l (requested_from_traced (up_to (entries_in l)) (table_for S s) s ((table_for S s).types - 1) 1 [] S.text_len work text) = rw (u, types_causes) in
           let begun : Explaining State = record { answer = record { sess = L; number = 0 }; entries = []; zeroed = true } in
           ends_along
-          (open_is ∙ ap (λ (K : TypeTable). settled_noted S (length work) (length text) l (requested_from_noted (up_to (entries_in l)) K s (K.types - 1) 1 [] S.text_len work text)) (table_is p modes s n ok S work text₀ L h text f same)
-          ∙ ap (λ (k : ℕ). settled_noted S (length work) (length text) l (requested_from_noted (up_to (entries_in l)) b s (k - 1) 1 [] S.text_len work text)) counted)
-          (ap (λ (z : Bool). every_noted X T (up_to (entries_in l)) (shows_in B) (length text) L z) o)
-          (settled_all (every_noted X T (up_to (entries_in l)) (shows_in B) (length text) L true)
+          (open_is ∙ ap (λ (K : TypeTable). settled_traced S (length work) (length text) l (requested_from_traced (up_to (entries_in l)) K s (K.types - 1) 1 [] S.text_len work text)) (table_is p modes s n ok S work text₀ L h text f same)
+          ∙ ap (λ (k : ℕ). settled_traced S (length work) (length text) l (requested_from_traced (up_to (entries_in l)) b s (k - 1) 1 [] S.text_len work text)) counted)
+          (ap (λ (z : Bool). every_traced X T (up_to (entries_in l)) (shows_in B) (length text) L z) o)
+          (settled_all (every_traced X T (up_to (entries_in l)) (shows_in B) (length text) L true)
           (from_came p modes s n ok (entries_in l) (length text) (T.count - 1) 1 (omega (arith, count_described p modes s n ok)) begun (omega arith) refl refl S.text_len work text (going p modes s n ok S work text₀ L h text f same o)) o)
 
       pub types_stepped : Ends (types_causes S s work text l) every'

@@ -16,7 +16,7 @@ use Rattle.proof_demands.specs.demands.Session.{After, Holds, Tells}
 use Rattle.proof_demands.specs.demands.Demands.{Lent, types_in, ruled}
 use Rattle.proof_demands.proofs.demands.Demands.{after_sound}
 use Rattle.proof_demands.proofs.demands.Session.{after_holds}
-use Rattle.spec_c_dumper.specs.origins.Causes.{up_to, shows_in, entries_in, untold, single_noted, list_noted, every_noted, causes_of, one_causes, list_causes, all_causes}
+use Rattle.spec_c_dumper.specs.origins.Causes.{up_to, shows_in, entries_in, untold, single_traced, list_traced, every_traced, causes_of, one_causes, list_causes, all_causes}
 use Rattle.spec_session.specs.origin_calls.Bytes.{type_causes, types_causes}
 use Rattle.spec_session.specs.origin_calls.Several.{list_from_causes, list_causes_call}
 use Rattle.proof_calls.specs.line_origins.Claims.{Agrees, one_ruled, all_ruled, list_ruled, Reasoned}
@@ -33,39 +33,39 @@ module _ (p modes : ℕ) (s : List ℕ) (n : ℕ) (c : Call) (rs : List Req) (a 
   holds : Holds p modes s n c.session c.work c.text L
   holds = after_holds p modes s n ok a
 
-  one : (id : ℕ) → Stepped p modes s n ok (length text) (untold L) l (type_causes c.session s c.work text id l) (single_noted (machine_in p modes s n) (types_in p modes s n) (up_to (entries_in l)) (shows_in (opened_table p modes s n)) (length text) id (untold L))
+  one : (id : ℕ) → Stepped p modes s n ok (length text) (untold L) l (type_causes c.session s c.work text id l) (single_traced (machine_in p modes s n) (types_in p modes s n) (up_to (entries_in l)) (shows_in (opened_table p modes s n)) (length text) id (untold L))
   one id = type_stepped p modes s n ok c.session c.work c.text (untold L) holds text lent.long lent.begins id l (entries_in l) (omega arith)
 
   one_agrees : (id : ℕ) → Agrees (type_causes c.session s c.work text id l) (one_ruled p modes s n l (length text) rs id)
   unfolding one_causes
   one_agrees id =
-      agrees p modes s n ok l (type_causes c.session s c.work text id l) (single_noted (machine_in p modes s n) (types_in p modes s n) (up_to (entries_in l)) (shows_in (opened_table p modes s n)) (length text) id (untold L))
+      agrees p modes s n ok l (type_causes c.session s c.work text id l) (single_traced (machine_in p modes s n) (types_in p modes s n) (up_to (entries_in l)) (shows_in (opened_table p modes s n)) (length text) id (untold L))
       (one id).fresh (one id).keeps.holds (one id).keeps.tells.number (one id).its_entries (one id).its_count (one id).listing
 
   one_tells : (id : ℕ) → Tells (length text) (type_causes c.session s c.work text id l).call (one_ruled p modes s n l (length text) rs id).answer
   unfolding one_causes causes_of
   one_tells id = (one id).keeps.tells
 
-  every : Stepped p modes s n ok (length text) (untold L) l (types_causes c.session s c.work text l) (every_noted (machine_in p modes s n) (types_in p modes s n) (up_to (entries_in l)) (shows_in (opened_table p modes s n)) (length text) L L.is_open)
+  every : Stepped p modes s n ok (length text) (untold L) l (types_causes c.session s c.work text l) (every_traced (machine_in p modes s n) (types_in p modes s n) (up_to (entries_in l)) (shows_in (opened_table p modes s n)) (length text) L L.is_open)
   every = types_stepped p modes s n ok c.session c.work c.text (untold L) holds text lent.long lent.begins l
 
   all_agree : Agrees (types_causes c.session s c.work text l) (all_ruled p modes s n l (length text) rs)
   unfolding all_causes
   all_agree =
-      agrees p modes s n ok l (types_causes c.session s c.work text l) (every_noted (machine_in p modes s n) (types_in p modes s n) (up_to (entries_in l)) (shows_in (opened_table p modes s n)) (length text) L L.is_open)
+      agrees p modes s n ok l (types_causes c.session s c.work text l) (every_traced (machine_in p modes s n) (types_in p modes s n) (up_to (entries_in l)) (shows_in (opened_table p modes s n)) (length text) L L.is_open)
       every.fresh every.keeps.holds every.keeps.tells.number every.its_entries every.its_count every.listing
 
   all_tell : Tells (length text) (types_causes c.session s c.work text l).call (all_ruled p modes s n l (length text) rs).answer
   unfolding all_causes causes_of
   all_tell = every.keeps.tells
 
-  some : (ids : List ℕ) → Went p modes s n ok 0 (untold L) l (list_from_causes 0 c.session s c.work text l ids) (list_noted (machine_in p modes s n) (types_in p modes s n) (up_to (entries_in l)) (shows_in (opened_table p modes s n)) (length text) ids (untold L))
+  some : (ids : List ℕ) → Went p modes s n ok 0 (untold L) l (list_from_causes 0 c.session s c.work text l ids) (list_traced (machine_in p modes s n) (types_in p modes s n) (up_to (entries_in l)) (shows_in (opened_table p modes s n)) (length text) ids (untold L))
   some ids = list_went p modes s n ok ids 0 c.session c.work c.text (untold L) holds refl text lent.long lent.begins l (entries_in l) (omega arith)
 
   list_agrees : (ids : List ℕ) → Agrees (list_causes_call c.session s c.work text ids l) (list_ruled p modes s n l (length text) rs ids)
   unfolding list_causes_call list_causes
   list_agrees ids =
-      agrees p modes s n ok l (list_from_causes 0 c.session s c.work text l ids) (list_noted (machine_in p modes s n) (types_in p modes s n) (up_to (entries_in l)) (shows_in (opened_table p modes s n)) (length text) ids (untold L))
+      agrees p modes s n ok l (list_from_causes 0 c.session s c.work text l ids) (list_traced (machine_in p modes s n) (types_in p modes s n) (up_to (entries_in l)) (shows_in (opened_table p modes s n)) (length text) ids (untold L))
       (some ids).fresh (some ids).holds (some ids).its_number (some ids).its_entries (some ids).its_count (some ids).listing
 
   list_counts : (ids : List ℕ) → length L.asked + value_of (list_causes_call c.session s c.work text ids l).call.answer ≡ length (list_ruled p modes s n l (length text) rs ids).answer.sess.asked

@@ -23,7 +23,7 @@ use Rattle.spec_c_dumper.specs.needs.Lists.{Ls}
 use Rattle.spec_c_dumper.specs.needs.Session.{Known}
 use Rattle.proof_demands.specs.demands.Table.{opened_table, machine_in}
 use Rattle.proof_demands.specs.demands.Session.{Holds}
-use Rattle.spec_c_dumper.specs.origins.Causes.{Entry, Led, order_led, listed_entry, Noted, each_listed, up_to, shows_in, entries_in, Explaining, dropped, emitted_noted, ordered_noted, gate_noted, single_noted, onward_noted, list_noted}
+use Rattle.spec_c_dumper.specs.origins.Causes.{Entry, WithLeaders, order_with_leaders, listed_entry, Traced, each_listed, up_to, shows_in, entries_in, Explaining, dropped, emitted_traced, ordered_traced, gate_traced, single_traced, onward_traced, list_traced}
 use Rattle.spec_session.specs.origin_calls.Bytes.{CauseCall, type_causes, CauseFits}
 use Rattle.spec_session.proofs.origin_calls.Bytes.{type_fits}
 use Rattle.spec_session.specs.origin_calls.Several.{front, go_on, list_from_causes}
@@ -46,24 +46,24 @@ module _ {M : Type 0} (X : Machine M) (T : Table) (more shows : ℕ → Bool) (t
   unfolding dropped shut
   dropped_asks e = record { accepted = λ o q. absurd (true≢false (sym o)); not_so = λ q. refl }
 
-  emitted_asks : (o : Out (Noted M)) → Asks told x (emitted_noted X T more shows told x o)
-  unfolding emitted_noted
+  emitted_asks : (o : Out (Traced M)) → Asks told x (emitted_traced X T more shows told x o)
+  unfolding emitted_traced
   emitted_asks (wrote m) = record { accepted = λ o q. refl; not_so = λ q. absurd (q refl) }
   emitted_asks (stuck e) = dropped_asks e
 
-  ordered_asks : (r : Res (Led M)) → Asks told x (ordered_noted X T more shows told x r)
-  unfolding ordered_noted
-  ordered_asks (ok s b) = emitted_asks (each_listed X T more shows (listed_entry x s.led) (X.store.list s.state) (record { mach = s.state; entries = told.entries }))
+  ordered_asks : (r : Res (WithLeaders M)) → Asks told x (ordered_traced X T more shows told x r)
+  unfolding ordered_traced
+  ordered_asks (ok s b) = emitted_asks (each_listed X T more shows (listed_entry x s.leaders) (X.store.list s.state) (record { mach = s.state; entries = told.entries }))
   ordered_asks (refused e) = dropped_asks e
 
-  gate_asks : (room : ℕ) (o b : Bool) → Asks told x (gate_noted X T more shows room told x o b)
-  unfolding gate_noted
+  gate_asks : (room : ℕ) (o b : Bool) → Asks told x (gate_traced X T more shows room told x o b)
+  unfolding gate_traced
   gate_asks room false b = record { accepted = λ o q. absurd (let z : ◌≡◌ {A = ℕ} 11 0 = q in omega arith); not_so = λ q. refl }
   gate_asks room true false = record { accepted = λ o q. absurd (let z : ◌≡◌ {A = ℕ} 10 0 = q in omega arith); not_so = λ q. refl }
-  gate_asks room true true = ordered_asks (order_led X.store x 512 T [] (record { state = X.start room told.answer.sess.mach; led = [] }) x false)
+  gate_asks room true true = ordered_asks (order_with_leaders X.store x 512 T [] (record { state = X.start room told.answer.sess.mach; leaders = [] }) x false)
 
-  single_asks : (room : ℕ) → Asks told x (single_noted X T more shows room x told)
-  unfolding single_noted
+  single_asks : (room : ℕ) → Asks told x (single_traced X T more shows room x told)
+  unfolding single_traced
   single_asks room = gate_asks room told.answer.sess.is_open (ltb x T.count)
 
 -- after k accepted ids: an id that is accepted, and one that is not
@@ -133,21 +133,21 @@ module _ (p modes : ℕ) (s : List ℕ) (n : ℕ) (ok : opening_number p s n ≡
     abbrev after : List ℕ
     after = drop (length h.fresh * 12) d.list
 
-    refused_went : (m : ℕ) → number_of d.call.answer ≡ suc m → Went k told l (go_on k d next) (onward_noted X T (up_to c) (shows_in B) rest t)
-    unfolding onward_noted call_of
+    refused_went : (m : ℕ) → number_of d.call.answer ≡ suc m → Went k told l (go_on k d next) (onward_traced X T (up_to c) (shows_in B) rest t)
+    unfolding onward_traced call_of
     refused_went m e =
         let z : t.answer.number ≡ suc m = sym h.keeps.tells.number ∙ e in
         let a : length t.answer.sess.asked ≡ length told.answer.sess.asked = ap length (asks.not_so (λ y. absurd (let q : suc m ≡ 0 = sym z ∙ y in omega arith))) in
-        subst (λ (y : CauseCall). Went k told l y (onward_noted X T (up_to c) (shows_in B) rest t)) (sym (stops k d next m e))
+        subst (λ (y : CauseCall). Went k told l y (onward_traced X T (up_to c) (shows_in B) rest t)) (sym (stops k d next m e))
         (subst (λ (y : ℕ). Went k told l (record { call = call_of d.call.session (answer_of (suc m) k) d.call.work d.call.text; count = d.count; list = d.list }) (elim y as (λ (i : ℕ). Explaining State) [ zero ↦ rest t | suc j ↦ t ])) (sym z)
         (record { holds = h.keeps.holds; its_number = number_is (suc m) k ∙ sym z; its_value = omega (arith, a, value_is (suc m) k); fresh = h.fresh; its_entries = h.its_entries; its_count = h.its_count; listing = h.listing }))
 
-    accepted_went : number_of d.call.answer ≡ 0 → Went (suc k) t after (next d) (rest t) → Went k told l (go_on k d next) (onward_noted X T (up_to c) (shows_in B) rest t)
-    unfolding onward_noted
+    accepted_went : number_of d.call.answer ≡ 0 → Went (suc k) t after (next d) (rest t) → Went k told l (go_on k d next) (onward_traced X T (up_to c) (shows_in B) rest t)
+    unfolding onward_traced
     accepted_went e i =
         let z : t.answer.number ≡ 0 = sym h.keeps.tells.number ∙ e in
         let a : length t.answer.sess.asked ≡ length told.answer.sess.asked + 1 = ap length (asks.accepted (h.goes_on z) z) ∙ length-append told.answer.sess.asked (x ∷ []) in
-        subst (λ (y : CauseCall). Went k told l y (onward_noted X T (up_to c) (shows_in B) rest t)) (sym (goes k d next (length h.fresh) h.its_count e))
+        subst (λ (y : CauseCall). Went k told l y (onward_traced X T (up_to c) (shows_in B) rest t)) (sym (goes k d next (length h.fresh) h.its_count e))
         (subst (λ (y : ℕ). Went k told l (front (length h.fresh) (take (length h.fresh * 12) d.list) (next d)) (elim y as (λ (i : ℕ). Explaining State) [ zero ↦ rest t | suc j ↦ t ])) (sym z)
         (record {
           holds = i.holds;
@@ -176,10 +176,10 @@ module _ (p modes : ℕ) (s : List ℕ) (n : ℕ) (ok : opening_number p s n ≡
     d₁ = type_causes S s work text x l
 
     abbrev t₁ : Explaining State
-    t₁ = single_noted X T (up_to c) (shows_in B) (length text) x told
+    t₁ = single_traced X T (up_to c) (shows_in B) (length text) x told
 
     abbrev others : ℕ → Explaining State → Explaining State
-    others room t = list_noted X T (up_to c) (shows_in B) room ids t
+    others room t = list_traced X T (up_to c) (shows_in B) room ids t
 
     abbrev further : CauseCall → CauseCall
     further d = list_from_causes (suc k) d.call.session s d.call.work d.call.text (drop (d.count * 12) d.list) ids
@@ -194,10 +194,10 @@ module _ (p modes : ℕ) (s : List ℕ) (n : ℕ) (ok : opening_number p s n ≡
     asking = single_asks X T (up_to c) (shows_in B) told x (length text)
 
     one_more : (number_of d₁.call.answer ≡ 0 → Went (suc k) t₁ left (list_from_causes (suc k) d₁.call.session s d₁.call.work d₁.call.text left ids) (others (length d₁.call.text) t₁))
-        → Went k told l (go_on k d₁ further) (onward_noted X T (up_to c) (shows_in B) (others (length text)) t₁)
+        → Went k told l (go_on k d₁ further) (onward_traced X T (up_to c) (shows_in B) (others (length text)) t₁)
     one_more i = by (number_of d₁.call.answer) refl
       where
-        by : (m : ℕ) → number_of d₁.call.answer ≡ m → Went k told l (go_on k d₁ further) (onward_noted X T (up_to c) (shows_in B) (others (length text)) t₁)
+        by : (m : ℕ) → number_of d₁.call.answer ≡ m → Went k told l (go_on k d₁ further) (onward_traced X T (up_to c) (shows_in B) (others (length text)) t₁)
         by (suc m) e = refused_went (length text) k x told t₁ l d₁ one asking further (others (length text)) c m e
         by zero e =
             accepted_went (length text) k x told t₁ l d₁ one asking further (others (length text)) c e
@@ -206,12 +206,12 @@ module _ (p modes : ℕ) (s : List ℕ) (n : ℕ) (ok : opening_number p s n ≡
 
   pub list_went : (ids : List ℕ) (k : ℕ) (S : Session) (work text₀ : List ℕ) (told : Explaining State) → Holds p modes s n S work text₀ told.answer.sess → told.answer.number ≡ 0
       → (text : List ℕ) → S.text_len ≤ length text → take S.text_len text ≡ take S.text_len text₀ → (l : List ℕ) (c : ℕ) → c ≡ length told.entries + entries_in l
-      → Went k told l (list_from_causes k S s work text l ids) (list_noted X T (up_to c) (shows_in B) (length text) ids told)
-  unfolding list_from_causes list_noted
+      → Went k told l (list_from_causes k S s work text l ids) (list_traced X T (up_to c) (shows_in B) (length text) ids told)
+  unfolding list_from_causes list_traced
   list_went [] k S work text₀ told h z text f same l c r = no_ids k S work text₀ told h z text f same l
   list_went (x ∷ ids) k S work text₀ told h z text f same l c r =
       let d : CauseCall = type_causes S s work text x l in
-      let t : Explaining State = single_noted X T (up_to c) (shows_in B) (length text) x told in
+      let t : Explaining State = single_traced X T (up_to c) (shows_in B) (length text) x told in
       let o : Stepped p modes s n ok (length text) told l d t = one x ids k S work text₀ told h text f same l c r in
       one_more x ids k S work text₀ told h text f same l c r
       (λ e. list_went ids (suc k) d.call.session d.call.work d.call.text t o.keeps.holds (sym o.keeps.tells.number ∙ e) d.call.text o.keeps.holds.fits refl (drop (length o.fresh * 12) d.list) c

@@ -19,7 +19,7 @@ use Rattle.spec_type_table.specs.Table.{btf_of}
 use Rattle.spec_opening.specs.Table.{enumerators_of}
 use Rattle.spec_opening.specs.Opened.{work_of}
 use Rattle.spec_opening.specs.Causes.{opening_number}
-use Rattle.spec_session.specs.emission.Sheet.{Sheet, work_machine}
+use Rattle.spec_session.specs.emission.Slices.{Slices, work_machine}
 use Rattle.spec_c_dumper.specs.rules.Request.{dumped}
 use Rattle.spec_session.specs.session.Turns.{Reach, reached, refused_by, visits_in}
 use Rattle.spec_session.specs.calls.Calls.{lent_to}
@@ -27,21 +27,21 @@ use Rattle.spec_c_dumper.specs.needs.Lists.{Ls}
 use Rattle.spec_c_dumper.specs.needs.Session.{Known}
 use Rattle.proof_demands.specs.demands.Table.{header_of, names_in, machine_in}
 use Rattle.proof_demands.proofs.demands.Sound.{opened_wf}
-use Rattle.proof_demands.proofs.demands.Minded.{opened_sane}
+use Rattle.proof_demands.proofs.demands.OpenedMemory.{opened_sane}
 use Rattle.proof_demands.proofs.demands.Named.{opened_indexed, opened_names}
 use Rattle.proof_demands.proofs.demands.Session.{Going, BothReach, both_reached, both_ended, begins, came, positive}
-use Rattle.spec_c_dumper.specs.origins.Causes.{Entry, order_led, Noted, up_to, shows_in, Explaining, ordered_noted, gate_noted, single_noted, onward_noted, from_noted}
+use Rattle.spec_c_dumper.specs.origins.Causes.{Entry, order_with_leaders, Traced, up_to, shows_in, Explaining, ordered_traced, gate_traced, single_traced, onward_traced, from_traced}
 use Rattle.spec_c_dumper.specs.origins.Claims.{forget, Lined}
-use Rattle.spec_session.specs.origin_calls.Bytes.{dumped_noted, Reached, entries_after, came_to_noted, requested_noted, onward_noted as go_on, requested_from_noted}
+use Rattle.spec_session.specs.origin_calls.Bytes.{dumped_traced, Reached, entries_after, came_to_traced, requested_traced, onward_traced as go_on, requested_from_traced}
 use Rattle.spec_session.proofs.origin_calls.Bytes.{dumped_lined}
-use Rattle.proof_calls.proofs.line_origins.Request.{BothTold, request_noted}
+use Rattle.proof_calls.proofs.line_origins.Request.{BothTold, request_traced}
 
-abbrev number_in : Out Sheet → ℕ
+abbrev number_in : Out Slices → ℕ
 number_in (wrote m) = 0
 number_in (stuck c) = c
 
 -- ---- a request in a list of c entries, of which es are there: no number 0, and no more entries than there is room for
-module _ (c : ℕ) (es : List Entry) (l : length es ≤ c) (F : (ℕ → Bool) → Out (Noted Sheet)) (P : Out Sheet) (h : Lined ⊥ (length es) F P) where
+module _ (c : ℕ) (es : List Entry) (l : length es ≤ c) (F : (ℕ → Bool) → Out (Traced Slices)) (P : Out Slices) (h : Lined ⊥ (length es) F P) where
   lined_positive : ((k : ℕ) → P ≡ stuck k → 0 < k) → (k : ℕ) → forget (F (up_to c)) ≡ stuck k → 0 < k
   unfolding forget
   lined_positive p k q = ⊎_elim
@@ -53,7 +53,7 @@ module _ (c : ℕ) (es : List Entry) (l : length es ≤ c) (F : (ℕ → Bool) �
   unfolding entries_after
   lined_held = go (F (up_to c)) refl
     where
-      go : (o : Out (Noted Sheet)) → F (up_to c) ≡ o → length (entries_after es o) ≤ c
+      go : (o : Out (Traced Slices)) → F (up_to c) ≡ o → length (entries_after es o) ≤ c
       go (wrote m) q = ⊎_elim
           (λ f. let y : wrote m ≡ stuck 17 = sym q ∙ h.short c l f in absurd (let z : ◌≡◌ {A = ℕ} 0 1 = cc in omega arith))
           (λ f. let z : length m.entries ≡ h.need = h.counts m (sym (h.fits c f) ∙ q) in omega arith)
@@ -97,48 +97,48 @@ module _ (p modes : ℕ) (s : List ℕ) (n : ℕ) (ok : opening_number p s n ≡
     abbrev es : List Entry
     es = told.entries
 
-    abbrev sheet : Sheet
-    sheet = record { work = v; text = lent_to len t; at = 0; len = 0 }
+    abbrev slices : Slices
+    slices = record { work = v; text = lent_to len t; at = 0; len = 0 }
 
-    abbrev out : Out (Noted Sheet)
-    out = dumped_noted (work_machine b B) T (up_to c) (shows_in B) sheet es x
+    abbrev out : Out (Traced Slices)
+    out = dumped_traced (work_machine b B) T (up_to c) (shows_in B) slices es x
 
     abbrev told' : Explaining State
-    told' = ordered_noted X T (up_to c) (shows_in B) told x (order_led X.store x 512 T [] (record { state = X.start room L.mach; led = [] }) x false)
+    told' = ordered_traced X T (up_to c) (shows_in B) told x (order_with_leaders X.store x 512 T [] (record { state = X.start room L.mach; leaders = [] }) x false)
 
-    single_is : single_noted X T (up_to c) (shows_in B) room x told ≡ told'
-    unfolding single_noted gate_noted
-    single_is = ap (λ (f : Bool). gate_noted X T (up_to c) (shows_in B) room told x f (ltb x T.count)) g.running ∙ ap (gate_noted X T (up_to c) (shows_in B) room told x true) (lt-ltb x T.count l)
+    single_is : single_traced X T (up_to c) (shows_in B) room x told ≡ told'
+    unfolding single_traced gate_traced
+    single_is = ap (λ (f : Bool). gate_traced X T (up_to c) (shows_in B) room told x f (ltb x T.count)) g.running ∙ ap (gate_traced X T (up_to c) (shows_in B) room told x true) (lt-ltb x T.count l)
 
-    table_now : (u : ℕ) → requested_noted (up_to c) b s x es len u v t ≡ came_to_noted len u t es out
-    unfolding requested_noted
-    table_now u = ap (λ (K : Rules). came_to_noted len u t es (dumped_noted (work_machine b K) (table_of K) (up_to c) (shows_in K) sheet es x)) g.bears.table
+    table_now : (u : ℕ) → requested_traced (up_to c) b s x es len u v t ≡ came_to_traced len u t es out
+    unfolding requested_traced
+    table_now u = ap (λ (K : Rules). came_to_traced len u t es (dumped_traced (work_machine b K) (table_of K) (up_to c) (shows_in K) slices es x)) g.bears.table
 
     below : x < b.types
     unfolding btf_of
     below = l
 
     both_told : BothTold b e s w (opened_indexed p modes s n ok) (opened_sane p modes s n ok) (names_in p modes s n) (opened_names p modes s n ok) (opened_wf p modes s n ok) (take len t) room (up_to c) (shows_in B) told x out told'
-    both_told = request_noted b e s w (opened_indexed p modes s n ok) (opened_sane p modes s n ok) (names_in p modes s n) (opened_names p modes s n ok) (opened_wf p modes s n ok) (take len t) room (up_to c) (shows_in B) told x
-        sheet refl g.bears (begins p modes s n ok len v t room L g x) below
+    both_told = request_traced b e s w (opened_indexed p modes s n ok) (opened_sane p modes s n ok) (names_in p modes s n) (opened_names p modes s n ok) (opened_wf p modes s n ok) (take len t) room (up_to c) (shows_in B) told x
+        slices refl g.bears (begins p modes s n ok len v t room L g x) below
 
-    lined : Lined ⊥ (length es) (λ r. dumped_noted (work_machine b B) T r (shows_in B) sheet es x) (dumped (work_machine b B) T sheet x)
-    lined = dumped_lined (work_machine b B) T (shows_in B) sheet es x
+    lined : Lined ⊥ (length es) (λ r. dumped_traced (work_machine b B) T r (shows_in B) slices es x) (dumped (work_machine b B) T slices x)
+    lined = dumped_lined (work_machine b B) T (shows_in B) slices es x
 
-    came_noted : (u : ℕ) → BothCame c room (came_to_noted len u t es out) told'
-    unfolding came_to_noted
-    came_noted u = record {
+    came_traced : (u : ℕ) → BothCame c room (came_to_traced len u t es out) told'
+    unfolding came_to_traced
+    came_traced u = record {
       reaches = came p modes s n ok len v t room L g x u both_told.answers
-          (lined_positive c es few (λ r. dumped_noted (work_machine b B) T r (shows_in B) sheet es x) (dumped (work_machine b B) T sheet x) lined (positive p modes s n ok len v t room L g x));
+          (lined_positive c es few (λ r. dumped_traced (work_machine b B) T r (shows_in B) slices es x) (dumped (work_machine b B) T slices x) lined (positive p modes s n ok len v t room L g x));
       same_entries = both_told.same_entries;
-      held = subst (λ (k : List Entry). length k ≤ c) both_told.same_entries (lined_held c es few (λ r. dumped_noted (work_machine b B) T r (shows_in B) sheet es x) (dumped (work_machine b B) T sheet x) lined);
+      held = subst (λ (k : List Entry). length k ≤ c) both_told.same_entries (lined_held c es few (λ r. dumped_traced (work_machine b B) T r (shows_in B) slices es x) (dumped (work_machine b B) T slices x) lined);
       zeroed = both_told.zeroed;
     }
 
-    pub request_came : (u : ℕ) → BothCame c room (requested_noted (up_to c) b s x es len u v t) (single_noted X T (up_to c) (shows_in B) room x told)
+    pub request_came : (u : ℕ) → BothCame c room (requested_traced (up_to c) b s x es len u v t) (single_traced X T (up_to c) (shows_in B) room x told)
     request_came u =
-        subst (λ (r : Reached). BothCame c room r (single_noted X T (up_to c) (shows_in B) room x told)) (sym (table_now u))
-        (subst (λ (q : Explaining State). BothCame c room (came_to_noted len u t es out) q) (sym single_is) (came_noted u))
+        subst (λ (r : Reached). BothCame c room r (single_traced X T (up_to c) (shows_in B) room x told)) (sym (table_now u))
+        (subst (λ (q : Explaining State). BothCame c room (came_to_traced len u t es out) q) (sym single_is) (came_traced u))
 
   -- ---- one after the other
   module _ (c room : ℕ) (r : Reached) (t : Explaining State) (k₁ : List Entry → ℕ → List ℕ → List ℕ → Reached) (k : Explaining State → Explaining State) (h : BothCame c room r t) where
@@ -146,8 +146,8 @@ module _ (p modes : ℕ) (s : List ℕ) (n : ℕ) (ok : opening_number p s n ≡
     Next q m = BothCame c room (elim q as (λ (y : Reach). Reached) [ reached len v u ↦ k₁ r.entries len v u | refused_by d len v u ↦ r ]) (elim m as (λ (y : ℕ). Explaining State) [ zero ↦ k t | suc j ↦ t ])
 
     onward_came : ((len : ℕ) (v u : List ℕ) → Going p modes s n ok len v u room t.answer.sess → t.answer.number ≡ 0 → BothCame c room (k₁ t.entries len v u) (k t))
-        → BothCame c room (go_on (up_to c) b s r k₁) (onward_noted X T (up_to c) (shows_in B) k t)
-    unfolding go_on onward_noted
+        → BothCame c room (go_on (up_to c) b s r k₁) (onward_traced X T (up_to c) (shows_in B) k t)
+    unfolding go_on onward_traced
     onward_came f = go h.reaches refl refl
       where
         go : {q : Reach} {a : Answer State} → BothReach p modes s n ok room q a → r.reach ≡ q → t.answer ≡ a → Next r.reach t.answer.number
@@ -160,8 +160,8 @@ module _ (p modes : ℕ) (s : List ℕ) (n : ℕ) (ok : opening_number p s n ≡
 
   pub from_came : (c room k x : ℕ) → x + k ≤ T.count → (told : Explaining State) → length told.entries ≤ c → told.zeroed ≡ true → told.answer.number ≡ 0
       → (len : ℕ) (v t : List ℕ) → Going p modes s n ok len v t room told.answer.sess
-      → BothCame c room (requested_from_noted (up_to c) b s k x told.entries len v t) (from_noted X T (up_to c) (shows_in B) room k x told)
-  unfolding requested_from_noted from_noted
+      → BothCame c room (requested_from_traced (up_to c) b s k x told.entries len v t) (from_traced X T (up_to c) (shows_in B) room k x told)
+  unfolding requested_from_traced from_traced
   from_came c room zero x l told few z q len v t g = record {
     reaches = subst (λ (m : ℕ). BothReach p modes s n ok room (reached len v t) (record { sess = told.answer.sess; number = m })) (sym q) (both_reached len v t told.answer.sess g);
     same_entries = refl;
@@ -169,6 +169,6 @@ module _ (p modes : ℕ) (s : List ℕ) (n : ℕ) (ok : opening_number p s n ≡
     zeroed = z;
   }
   from_came c room (suc k) x l told few z q len v t g =
-      let h : BothCame c room (requested_noted (up_to c) b s x told.entries len (visits_in v) v t) (single_noted X T (up_to c) (shows_in B) room x told) = request_came c told few len v t room g x (omega arith) (visits_in v) in
-      onward_came c room (requested_noted (up_to c) b s x told.entries len (visits_in v) v t) (single_noted X T (up_to c) (shows_in B) room x told) (requested_from_noted (up_to c) b s k (suc x)) (from_noted X T (up_to c) (shows_in B) room k (suc x)) h
-      (λ len' v' t' g' q'. from_came c room k (suc x) (omega arith) (single_noted X T (up_to c) (shows_in B) room x told) h.held h.zeroed q' len' v' t' g')
+      let h : BothCame c room (requested_traced (up_to c) b s x told.entries len (visits_in v) v t) (single_traced X T (up_to c) (shows_in B) room x told) = request_came c told few len v t room g x (omega arith) (visits_in v) in
+      onward_came c room (requested_traced (up_to c) b s x told.entries len (visits_in v) v t) (single_traced X T (up_to c) (shows_in B) room x told) (requested_from_traced (up_to c) b s k (suc x)) (from_traced X T (up_to c) (shows_in B) room k (suc x)) h
+      (λ len' v' t' g' q'. from_came c room k (suc x) (omega arith) (single_traced X T (up_to c) (shows_in B) room x told) h.held h.zeroed q' len' v' t' g')

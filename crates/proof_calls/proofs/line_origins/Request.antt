@@ -13,7 +13,7 @@ use Rattle.spec_c_dumper.specs.rules.Names.{Names, Naming}
 use Rattle.spec_c_dumper.proofs.rules.Related.{RelNaming}
 use Rattle.spec_type_table.specs.declared.types.TypeTable.{TypeTable}
 use Rattle.spec_type_table.specs.Table.{btf_of, work_naming}
-use Rattle.spec_session.specs.emission.Sheet.{Sheet, work_machine}
+use Rattle.spec_session.specs.emission.Slices.{Slices, work_machine}
 use Rattle.spec_c_dumper.specs.needs.Needs.{WF}
 use Rattle.spec_c_dumper.specs.needs.Lists.{Ls}
 use Rattle.spec_c_dumper.specs.needs.Session.{Known, machine_by}
@@ -23,13 +23,13 @@ use Rattle.spec_c_dumper.proofs.needs.Session.{machine_lawful}
 use Rattle.proof_demands.specs.name_counts.Indexed.{Indexed, NameFits, FitsValue}
 use Rattle.proof_demands.specs.name_counts.Alike.{Alike}
 use Rattle.proof_demands.specs.alignment_memory.Work.{Sane}
-use Rattle.proof_demands.specs.demands.Sheet.{Bears, Shows, BothRequest, both_refused}
+use Rattle.proof_demands.specs.demands.Representation.{Bears, Shows, BothRequest, both_refused}
 use Rattle.proof_demands.proofs.demands.Start.{start_step}
 use Rattle.proof_demands.proofs.demands.Request.{Related, alike_store, alike_steps, list_same, emitted_alike}
-use Rattle.spec_c_dumper.specs.origins.Causes.{Led, order_led, listed_entry, Noted, each_listed, Explaining, dropped, emitted_noted, ordered_noted}
+use Rattle.spec_c_dumper.specs.origins.Causes.{WithLeaders, order_with_leaders, listed_entry, Traced, each_listed, Explaining, dropped, emitted_traced, ordered_traced}
 use Rattle.spec_c_dumper.specs.origins.Claims.{forget}
-use Rattle.spec_session.specs.origin_calls.Bytes.{listed_noted, dumped_noted, entries_after}
-use Rattle.proof_calls.proofs.line_origins.Ordering.{BothLed, both_led, neither_led, order_led_alike}
+use Rattle.spec_session.specs.origin_calls.Bytes.{listed_traced, dumped_traced, entries_after}
+use Rattle.proof_calls.proofs.line_origins.Ordering.{BothLeaders, both_leaders, neither_leader, order_with_leaders_alike}
 use Rattle.proof_calls.proofs.line_origins.Emission.{SameNoted, listed_alike}
 
 -- w is the work after opening; the text so far is `front`, and the room of the request is `room`
@@ -44,19 +44,19 @@ module _ (b : TypeTable) (e : ℕ) (s w : List ℕ) (I : Indexed b e s w) (Z : S
   abbrev State : Type 0
   State = Ls (Known Names)
 
-  abbrev X₁ : Machine Sheet
+  abbrev X₁ : Machine Slices
   X₁ = work_machine b B
 
   abbrev X : Machine State
   X = machine_by N B
 
-  abbrev Rel : Sheet → State → Type 0
+  abbrev Rel : Slices → State → Type 0
   Rel m t = Related b e s w I Z N R wf front room m t
 
   abbrev lawful : MLawful X (Sized T.count) T.count
   lawful = machine_lawful N B T.count
 
-  abbrev Lives : Sheet → State → Type 0
+  abbrev Lives : Slices → State → Type 0
   Lives m t = Live X₁.store X.store T (Sized T.count) lawful.law (OrderKeeps X (Sized T.count)) lawful.framed wf.below Rel (alike_store b e s w I Z N R wf front room) m t
 
   counted : T.count ≡ b.types
@@ -68,38 +68,38 @@ module _ (b : TypeTable) (e : ℕ) (s w : List ℕ) (I : Indexed b e s w) (Z : S
     abbrev S : Sess State
     S = told.answer.sess
 
-    pub record BothTold (o : Out (Noted Sheet)) (t : Explaining State) : Type 0 where
+    pub record BothTold (o : Out (Traced Slices)) (t : Explaining State) : Type 0 where
       pub answers : BothRequest b e s w front room S x (forget o) t.answer
       pub same_entries : entries_after told.entries o ≡ t.entries
       pub zeroed : t.zeroed ≡ true
 
-    abbrev last : Noted Sheet → Out (Noted Sheet)
+    abbrev last : Traced Slices → Out (Traced Slices)
     last k = wrote (record { mach = X₁.start 0 k.mach; entries = k.entries })
 
-    emitted_noted_lem : {r₁ : Out (Noted Sheet)} {r : Out (Noted State)} → BothOut (SameNoted Rel) r₁ r → BothTold (obind r₁ last) (emitted_noted X T more shows told x r)
-    unfolding obind forget entries_after emitted_noted emitted dropped shut
-    emitted_noted_lem (both_wrote m t q) = record { answers = emitted_alike b e s w I Z N R wf front room S x (both_wrote m.mach t.mach q.related); same_entries = q.same_entries; zeroed = refl }
-    emitted_noted_lem (both_stuck c) = record { answers = emitted_alike b e s w I Z N R wf front room S x (both_stuck c); same_entries = refl; zeroed = refl }
+    emitted_traced_lem : {r₁ : Out (Traced Slices)} {r : Out (Traced State)} → BothOut (SameNoted Rel) r₁ r → BothTold (obind r₁ last) (emitted_traced X T more shows told x r)
+    unfolding obind forget entries_after emitted_traced emitted dropped shut
+    emitted_traced_lem (both_wrote m t q) = record { answers = emitted_alike b e s w I Z N R wf front room S x (both_wrote m.mach t.mach q.related); same_entries = q.same_entries; zeroed = refl }
+    emitted_traced_lem (both_stuck c) = record { answers = emitted_alike b e s w I Z N R wf front room S x (both_stuck c); same_entries = refl; zeroed = refl }
 
-    ordered_noted_lem : {r₁ : Res (Led Sheet)} {r : Res (Led State)} → BothLed Lives r₁ r → BothTold (listed_noted X₁ T more shows x told.entries r₁) (ordered_noted X T more shows told x r)
-    unfolding listed_noted ordered_noted dropped shut forget entries_after
-    ordered_noted_lem (both_led m t c h q) =
-        let m' : Noted Sheet = record { mach = m.state; entries = told.entries } in
-        let t' : Noted State = record { mach = t.state; entries = told.entries } in
-        emitted_noted_lem
-        (subst (λ (k : List ℕ). BothOut (SameNoted Rel) (each_listed X₁ T more shows (listed_entry x m.led) k m') (each_listed X T more shows (listed_entry x t.led) (X.store.list t.state) t')) (sym (list_same b e s w I Z N R wf front room m.state t.state h.related))
-        (subst (λ (k : List (ℕ × ℕ)). BothOut (SameNoted Rel) (each_listed X₁ T more shows (listed_entry x k) (X.store.list t.state) m') (each_listed X T more shows (listed_entry x t.led) (X.store.list t.state) t')) (sym q)
-        (listed_alike X₁ X T wf.below Rel (alike_steps b e s w I Z N R wf front room) more shows (listed_entry x t.led) (X.store.list t.state) h.ids m' t' (record { related = h.related; same_entries = refl }))))
-    ordered_noted_lem (neither_led c) = record { answers = both_refused c; same_entries = refl; zeroed = refl }
+    ordered_traced_lem : {r₁ : Res (WithLeaders Slices)} {r : Res (WithLeaders State)} → BothLeaders Lives r₁ r → BothTold (listed_traced X₁ T more shows x told.entries r₁) (ordered_traced X T more shows told x r)
+    unfolding listed_traced ordered_traced dropped shut forget entries_after
+    ordered_traced_lem (both_leaders m t c h q) =
+        let m' : Traced Slices = record { mach = m.state; entries = told.entries } in
+        let t' : Traced State = record { mach = t.state; entries = told.entries } in
+        emitted_traced_lem
+        (subst (λ (k : List ℕ). BothOut (SameNoted Rel) (each_listed X₁ T more shows (listed_entry x m.leaders) k m') (each_listed X T more shows (listed_entry x t.leaders) (X.store.list t.state) t')) (sym (list_same b e s w I Z N R wf front room m.state t.state h.related))
+        (subst (λ (k : List (ℕ × ℕ)). BothOut (SameNoted Rel) (each_listed X₁ T more shows (listed_entry x k) (X.store.list t.state) m') (each_listed X T more shows (listed_entry x t.leaders) (X.store.list t.state) t')) (sym q)
+        (listed_alike X₁ X T wf.below Rel (alike_steps b e s w I Z N R wf front room) more shows (listed_entry x t.leaders) (X.store.list t.state) h.ids m' t' (record { related = h.related; same_entries = refl }))))
+    ordered_traced_lem (neither_leader c) = record { answers = both_refused c; same_entries = refl; zeroed = refl }
 
     -- m: the sheet of the request, with an empty order list
-    pub request_noted : (m : Sheet) → m.len ≡ 0 → Bears b e s w m.work 0 (X.start 0 S.mach) → Shows b e s w front m.text m.at (X.start room S.mach) → x < b.types
-        → BothTold (dumped_noted X₁ T more shows m told.entries x) (ordered_noted X T more shows told x (order_led X.store x 512 T [] (record { state = X.start room S.mach; led = [] }) x false))
-    unfolding dumped_noted
-    request_noted m z h sh l =
-        ordered_noted_lem
-        (order_led_alike X₁.store X.store T (Sized T.count) lawful.law (OrderKeeps X (Sized T.count)) lawful.framed wf.below Rel (alike_store b e s w I Z N R wf front room) x
-        512 [] (record { state = m; led = [] }) (record { state = X.start room S.mach; led = [] }) x false
+    pub request_traced : (m : Slices) → m.len ≡ 0 → Bears b e s w m.work 0 (X.start 0 S.mach) → Shows b e s w front m.text m.at (X.start room S.mach) → x < b.types
+        → BothTold (dumped_traced X₁ T more shows m told.entries x) (ordered_traced X T more shows told x (order_with_leaders X.store x 512 T [] (record { state = X.start room S.mach; leaders = [] }) x false))
+    unfolding dumped_traced
+    request_traced m z h sh l =
+        ordered_traced_lem
+        (order_with_leaders_alike X₁.store X.store T (Sized T.count) lawful.law (OrderKeeps X (Sized T.count)) lawful.framed wf.below Rel (alike_store b e s w I Z N R wf front room) x
+        512 [] (record { state = m; leaders = [] }) (record { state = X.start room S.mach; leaders = [] }) x false
         (record {
           related = record {
             bears = subst (λ (k : ℕ). Bears b e s w m.work k (X.start room S.mach)) (sym z) (start_step b e s w m.work m.work refl refl (λ i q. refl) B room 0 (X.start 0 S.mach) h);

@@ -13,7 +13,7 @@ use Rattle.spec_session.specs.session.Turns.{Call, is_current, settled, unchange
 use Rattle.spec_session.specs.calls.Refusals.{not_current, id_not_below, number, refusal}
 use Rattle.spec_session.specs.calls.Calls.{requested, type_call}
 use Rattle.spec_c_dumper.specs.origins.Causes.{Entry, up_to, bytes_of, filled, entries_in}
-use Rattle.spec_session.specs.origin_calls.Bytes.{CauseCall, requested_noted, settled_noted, left_alone, type_causes, CauseFits}
+use Rattle.spec_session.specs.origin_calls.Bytes.{CauseCall, requested_traced, settled_traced, left_alone, type_causes, CauseFits}
 use Rattle.spec_session.proofs.origin_calls.Bytes.{type_fits}
 use Rattle.spec_c_dumper.proofs.origins.Listed.{bytes_length}
 
@@ -24,7 +24,7 @@ data View (c : Call) (d : CauseCall) (l : List ℕ) : Type 0 where
 
 module _ (s : Session) (section work text : List ℕ) (id : ℕ) where
   view : (l : List ℕ) → View (type_call s section work text id) (type_causes s section work text id l) l
-  unfolding type_causes type_call settled_noted number_of answer_of number
+  unfolding type_causes type_call settled_traced number_of answer_of number
   view l = by (is_current s (length section) (length work) (length text)) (ltb id s.types)
     where
       by : (o b : Bool) → View
@@ -33,12 +33,12 @@ module _ (s : Session) (section work text : List ℕ) (id : ℕ) where
             | false ↦ left_alone (unchanged s (refusal not_current s.text_len) work text) l
             | true ↦ elim b [
               | false ↦ left_alone (unchanged s (refusal id_not_below s.text_len) work text) l
-              | true ↦ settled_noted s (length work) (length text) l (requested_noted (up_to (entries_in l)) (table_for s section) section id [] s.text_len s.visits work text)
+              | true ↦ settled_traced s (length work) (length text) l (requested_traced (up_to (entries_in l)) (table_for s section) section id [] s.text_len s.visits work text)
             ]
           ]) l
       by false b = alone refl (λ e. let z : ◌≡◌ {A = ℕ} 11 0 = e in omega arith)
       by true false = alone refl (λ e. let z : ◌≡◌ {A = ℕ} 10 0 = e in omega arith)
-      by true true = full (requested_noted (up_to (entries_in l)) (table_for s section) section id [] s.text_len s.visits work text).entries refl refl
+      by true true = full (requested_traced (up_to (entries_in l)) (table_for s section) section id [] s.text_len s.visits work text).entries refl refl
 
   abbrev fit : CauseFits (type_call s section work text id) (λ l. type_causes s section work text id l)
   fit = type_fits s section work text id

@@ -12,7 +12,7 @@ use Rattle.std.proofs.lemmas.Bool.{cases_lt}
 use Rattle.spec_c_dumper.specs.rules.Order.{Table, Res, ok, refused}
 use Rattle.spec_c_dumper.specs.rules.Machine.{Out, wrote, stuck, Machine, emit, Sess, Answer, Req, one, shut, single, serve, run}
 use Rattle.proof_demands.specs.demands.Session.{singles_for}
-use Rattle.spec_c_dumper.specs.origins.Causes.{Led, order_led, listed_entry, Noted, up_to, always, emit_noted, Explaining, dropped, emitted_noted, each_listed, ordered_noted, gate_noted, single_noted, onward_noted, list_noted, from_noted}
+use Rattle.spec_c_dumper.specs.origins.Causes.{WithLeaders, order_with_leaders, listed_entry, Traced, up_to, always, emit_traced, Explaining, dropped, emitted_traced, each_listed, ordered_traced, gate_traced, single_traced, onward_traced, list_traced, from_traced}
 use Rattle.spec_c_dumper.specs.origins.Claims.{Numbered, FitsList}
 use Rattle.spec_c_dumper.proofs.origins.Ordering.{NotNone, stopped, order_not}
 use Rattle.spec_c_dumper.proofs.origins.Emission.{emit_lined, each_lined}
@@ -27,50 +27,50 @@ module _ {M : Type 0} (X : Machine M) (T : Table) (shows : ℕ → Bool) (nz : N
         → (u.answer.number ≡ 17 → (u.answer.sess.is_open ≡ false) × (t.answer.sess.is_open ≡ true)) → Came x t u
 
   module _ (x : ℕ) (t : Explaining M) (few : length t.entries ≤ c) where
-    abbrev begun : Led M → Noted M
+    abbrev begun : WithLeaders M → Traced M
     begun s = record { mach = s.state; entries = t.entries }
 
-    listed_not : (s : Led M) → each_listed X T (up_to c) shows (listed_entry x s.led) (X.store.list s.state) (begun s) ≡ stuck 0 → ⊥
+    listed_not : (s : WithLeaders M) → each_listed X T (up_to c) shows (listed_entry x s.leaders) (X.store.list s.state) (begun s) ≡ stuck 0 → ⊥
     listed_not s e =
-        let h = each_lined (Numbered X) (λ r m y. emit_noted X r shows (listed_entry x s.led) T 512 m y 0) (λ m y. emit X T 512 m y 0) (λ m y. emit_lined X shows (listed_entry x s.led) T 512 m y 0) (X.store.list s.state) (begun s) in
+        let h = each_lined (Numbered X) (λ r m y. emit_traced X r shows (listed_entry x s.leaders) T 512 m y 0) (λ m y. emit X T 512 m y 0) (λ m y. emit_lined X shows (listed_entry x s.leaders) T 512 m y 0) (X.store.list s.state) (begun s) in
         ⊎_elim (λ q. let z : stuck 17 ≡ stuck 0 = sym (h.short c few q) ∙ e in let y : ◌≡◌ {A = ℕ} 17 0 = cc in omega arith) (λ q. h.numbered nz (sym (h.fits c q) ∙ e)) (cases_lt c h.need)
 
     dropped_came : t.answer.sess.is_open ≡ true → (e : ℕ) → (e ≡ 0 → ⊥) → Came x t (dropped X T (up_to c) shows t e)
     unfolding dropped shut
     dropped_came o e z = none z refl refl (λ q. (refl, o))
 
-    emitted_came : t.answer.sess.is_open ≡ true → (r : Out (Noted M)) → (r ≡ stuck 0 → ⊥) → Came x t (emitted_noted X T (up_to c) shows t x r)
-    unfolding emitted_noted
+    emitted_came : t.answer.sess.is_open ≡ true → (r : Out (Traced M)) → (r ≡ stuck 0 → ⊥) → Came x t (emitted_traced X T (up_to c) shows t x r)
+    unfolding emitted_traced
     emitted_came o (wrote m) z = more refl refl refl
     emitted_came o (stuck e) z = dropped_came o e (λ q. z (ap stuck q))
 
-    ordered_came : t.answer.sess.is_open ≡ true → (r : Res (Led M)) → NotNone r → Came x t (ordered_noted X T (up_to c) shows t x r)
-    unfolding ordered_noted
-    ordered_came o (ok s b) z = emitted_came o (each_listed X T (up_to c) shows (listed_entry x s.led) (X.store.list s.state) (begun s)) (listed_not s)
+    ordered_came : t.answer.sess.is_open ≡ true → (r : Res (WithLeaders M)) → NotNone r → Came x t (ordered_traced X T (up_to c) shows t x r)
+    unfolding ordered_traced
+    ordered_came o (ok s b) z = emitted_came o (each_listed X T (up_to c) shows (listed_entry x s.leaders) (X.store.list s.state) (begun s)) (listed_not s)
     ordered_came o (refused e) (stopped z) = dropped_came o e z
 
-    gate_came : (o b : Bool) → t.answer.sess.is_open ≡ o → Came x t (gate_noted X T (up_to c) shows size t x o b)
-    unfolding gate_noted
+    gate_came : (o b : Bool) → t.answer.sess.is_open ≡ o → Came x t (gate_traced X T (up_to c) shows size t x o b)
+    unfolding gate_traced
     gate_came false b q = none (λ (z : ◌≡◌ {A = ℕ} 11 0). omega arith) refl refl (λ (z : ◌≡◌ {A = ℕ} 11 17). absurd (omega arith))
     gate_came true false q = none (λ (z : ◌≡◌ {A = ℕ} 10 0). omega arith) refl refl (λ (z : ◌≡◌ {A = ℕ} 10 17). absurd (omega arith))
     gate_came true true q =
-        let s : Led M = record { state = X.start size t.answer.sess.mach; led = [] } in
-        ordered_came q (order_led X.store x 512 T [] s x false) (order_not X.store x 512 T [] s x false)
+        let s : WithLeaders M = record { state = X.start size t.answer.sess.mach; leaders = [] } in
+        ordered_came q (order_with_leaders X.store x 512 T [] s x false) (order_not X.store x 512 T [] s x false)
 
-    abbrev noted : Explaining M
-    noted = single_noted X T (up_to c) shows size x t
+    abbrev traced : Explaining M
+    traced = single_traced X T (up_to c) shows size x t
 
-    pub single_came : Came x t noted
-    unfolding single_noted
+    pub single_came : Came x t traced
+    unfolding single_traced
     single_came = gate_came t.answer.sess.is_open (ltb x T.count) refl
 
     -- an accepted one is the plain one
-    accepted_is : noted.answer.number ≡ 0 → (noted.answer ≡ single X T size t.answer.sess x) × (length noted.entries ≤ c)
+    accepted_is : traced.answer.number ≡ 0 → (traced.answer ≡ single X T size t.answer.sess x) × (length traced.entries ≤ c)
     accepted_is z =
-        let h : FitsList (length t.entries) (λ r. single_noted X T r shows size x t) (single X T size t.answer.sess x) = single_fits X T shows nz size x t in
+        let h : FitsList (length t.entries) (λ r. single_traced X T r shows size x t) (single X T size t.answer.sess x) = single_fits X T shows nz size x t in
         ⊎_elim
         (λ q. absurd (let y : ◌≡◌ {A = ℕ} 17 0 = sym (h.short c few q) ∙ z in omega arith))
-        (λ q. let held : length (single_noted X T always shows size x t).entries ≤ h.need = h.held in
+        (λ q. let held : length (single_traced X T always shows size x t).entries ≤ h.need = h.held in
         (ap (λ (u : Explaining M). u.answer) (h.fits c q) ∙ h.same, subst (λ (u : Explaining M). length u.entries ≤ c) (sym (h.fits c q)) (omega arith))) (cases_lt c h.need)
 
   -- the requests of a call: so many are accepted, and then 17 closes the session
@@ -96,7 +96,7 @@ module _ {M : Type 0} (X : Machine M) (T : Table) (shows : ℕ → Bool) (nz : N
   module _ (x : ℕ) (t : Explaining M) (few : length t.entries ≤ c) (reqs others : ℕ → List Req) (first : reqs 0 ≡ []) (next : (k : ℕ) → reqs (suc k) ≡ one size x ∷ others k) (K : Explaining M → Explaining M)
       (h : (u : Explaining M) → u.answer.number ≡ 0 → length u.entries ≤ c → Accepted others u (K u)) where
     abbrev u₁ : Explaining M
-    u₁ = single_noted X T (up_to c) shows size x t
+    u₁ = single_traced X T (up_to c) shows size x t
 
     one_more : u₁.answer.number ≡ 0 → u₁.answer.sess.asked ≡ t.answer.sess.asked ++ (x ∷ []) → Accepted reqs t (K u₁)
     unfolding run serve
@@ -113,8 +113,8 @@ module _ {M : Type 0} (X : Machine M) (T : Table) (shows : ℕ → Bool) (nz : N
           ends = λ y. ((g.ends y).0, ap (λ (S : Sess M). S.is_open) (sym r) ∙ (g.ends y).1);
         }
 
-    onward_accepted : Accepted reqs t (onward_noted X T (up_to c) shows K u₁)
-    unfolding onward_noted
+    onward_accepted : Accepted reqs t (onward_traced X T (up_to c) shows K u₁)
+    unfolding onward_traced
     onward_accepted = by (single_came x t few)
       where
         stop : (u₁.answer.number ≡ 0 → ⊥) → Accepted reqs t u₁ → (m : ℕ) → u₁.answer.number ≡ m → Accepted reqs t (elim m as (λ (y : ℕ). Explaining M) [ zero ↦ K u₁ | suc r ↦ u₁ ])
@@ -128,14 +128,14 @@ module _ {M : Type 0} (X : Machine M) (T : Table) (shows : ℕ → Bool) (nz : N
   not_17 : (t : Explaining M) → t.answer.number ≡ 0 → t.answer.number ≡ 17 → (t.answer.sess.is_open ≡ false) × (t.answer.sess.is_open ≡ true)
   not_17 t z q = absurd (let y : ◌≡◌ {A = ℕ} 0 17 = sym z ∙ q in omega arith)
 
-  pub from_accepted : (n x : ℕ) (t : Explaining M) → t.answer.number ≡ 0 → length t.entries ≤ c → Accepted (λ k. ones_from size k x) t (from_noted X T (up_to c) shows size n x t)
-  unfolding from_noted ones_from
+  pub from_accepted : (n x : ℕ) (t : Explaining M) → t.answer.number ≡ 0 → length t.entries ≤ c → Accepted (λ k. ones_from size k x) t (from_traced X T (up_to c) shows size n x t)
+  unfolding from_traced ones_from
   from_accepted zero x t z few = no_more (λ k. ones_from size k x) refl t t refl refl (not_17 t z)
   from_accepted (suc n) x t z few =
-      onward_accepted x t few (λ k. ones_from size k x) (λ k. ones_from size k (suc x)) refl (λ k. refl) (from_noted X T (up_to c) shows size n (suc x)) (λ u y f. from_accepted n (suc x) u y f)
+      onward_accepted x t few (λ k. ones_from size k x) (λ k. ones_from size k (suc x)) refl (λ k. refl) (from_traced X T (up_to c) shows size n (suc x)) (λ u y f. from_accepted n (suc x) u y f)
 
-  pub list_accepted : (xs : List ℕ) (t : Explaining M) → t.answer.number ≡ 0 → length t.entries ≤ c → Accepted (λ k. singles_for size k xs) t (list_noted X T (up_to c) shows size xs t)
-  unfolding list_noted singles_for
+  pub list_accepted : (xs : List ℕ) (t : Explaining M) → t.answer.number ≡ 0 → length t.entries ≤ c → Accepted (λ k. singles_for size k xs) t (list_traced X T (up_to c) shows size xs t)
+  unfolding list_traced singles_for
   list_accepted [] t z few = no_more (λ k. singles_for size k []) refl t t refl refl (not_17 t z)
   list_accepted (x ∷ xs) t z few =
-      onward_accepted x t few (λ k. singles_for size k (x ∷ xs)) (λ k. singles_for size k xs) refl (λ k. refl) (list_noted X T (up_to c) shows size xs) (λ u y f. list_accepted xs u y f)
+      onward_accepted x t few (λ k. singles_for size k (x ∷ xs)) (λ k. singles_for size k xs) refl (λ k. refl) (list_traced X T (up_to c) shows size xs) (λ u y f. list_accepted xs u y f)

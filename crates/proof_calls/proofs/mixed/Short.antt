@@ -17,7 +17,7 @@ use Rattle.spec_c_dumper.specs.needs.Session.{Known, text_of}
 use Rattle.proof_demands.specs.demands.Table.{opened_table, names_in, machine_in}
 use Rattle.proof_demands.specs.demands.Session.{Holds, singles_for}
 use Rattle.proof_demands.specs.demands.Demands.{Lent, types_in, ruled}
-use Rattle.spec_c_dumper.specs.origins.Causes.{up_to, shows_in, entries_in, Explaining, untold, single_noted, list_noted, every_noted, causes_of, all_causes}
+use Rattle.spec_c_dumper.specs.origins.Causes.{up_to, shows_in, entries_in, Explaining, untold, single_traced, list_traced, every_traced, causes_of, all_causes}
 use Rattle.spec_session.specs.origin_calls.Bytes.{CauseCall, type_causes, types_causes}
 use Rattle.spec_c_dumper.proofs.origins.Numbered.{machine_numbered}
 use Rattle.spec_session.specs.origin_calls.Several.{list_from_causes, list_causes_call}
@@ -54,7 +54,7 @@ module _ (p modes : ℕ) (s : List ℕ) (n : ℕ) (ok : opening_number p s n ≡
     d = (type_causes c.session s c.work text id l).call
 
     abbrev u : Explaining State
-    u = single_noted X T (up_to (entries_in l)) (shows_in B) (length text) id (untold L)
+    u = single_traced X T (up_to (entries_in l)) (shows_in B) (length text) id (untold L)
 
     one_stepped : Stepped p modes s n ok (length text) (untold L) l (type_causes c.session s c.work text id l) u
     one_stepped = type_stepped p modes s n ok c.session c.work c.text (untold L) h text lent.long lent.begins id l (entries_in l) (omega arith)
@@ -71,11 +71,11 @@ module _ (p modes : ℕ) (s : List ℕ) (n : ℕ) (ok : opening_number p s n ≡
 
   -- all ids
   abbrev every' : Bool → Explaining State
-  every' b = every_noted X T (up_to (entries_in l)) (shows_in B) (length text) L b
+  every' b = every_traced X T (up_to (entries_in l)) (shows_in B) (length text) L b
 
   every_accepted : (b : Bool) → (every' b).answer.number ≡ 17
       → Accepted X T (shows_in B) (machine_numbered (names_in p modes s n) B) (length text) (entries_in l) (λ k. ones_from (length text) k 1) (untold L) (every' b)
-  unfolding every_noted
+  unfolding every_traced
   every_accepted false q = absurd (let y : ◌≡◌ {A = ℕ} 11 17 = q in omega arith)
   every_accepted true q =
       let g = from_accepted X T (shows_in B) (machine_numbered (names_in p modes s n) B) (length text) (entries_in l) (T.count - 1) 1 (record { answer = record { sess = L; number = 0 }; entries = []; zeroed = true }) refl zero-le in
@@ -108,7 +108,7 @@ module _ (p modes : ℕ) (s : List ℕ) (n : ℕ) (ok : opening_number p s n ≡
   unfolding list_causes_call
   list_short ids q =
       let d : CauseCall = list_from_causes 0 c.session s c.work text l ids in
-      let u : Explaining State = list_noted X T (up_to (entries_in l)) (shows_in B) (length text) ids (untold L) in
+      let u : Explaining State = list_traced X T (up_to (entries_in l)) (shows_in B) (length text) ids (untold L) in
       let w : Went p modes s n ok 0 (untold L) l d u = list_went p modes s n ok ids 0 c.session c.work c.text (untold L) h refl text lent.long lent.begins l (entries_in l) (omega arith) in
       let z : u.answer.number ≡ 17 = sym w.its_number ∙ q in
       let g = list_accepted X T (shows_in B) (machine_numbered (names_in p modes s n) B) (length text) (entries_in l) ids (untold L) refl zero-le in

@@ -35,7 +35,7 @@ use Rattle.spec_c_dumper.proofs.alignment_once.Session.{Kept, Sound, same_sessio
 use Rattle.spec_c_dumper.specs.needs.Needs.{WF}
 use Rattle.spec_c_dumper.specs.needs.Session.{opened_by, dumped}
 use Rattle.btf_layout.specs.remembered.Words.{seen_word, decoded, coded, with_visits as visited, remembered, work_keep}
-use Rattle.btf_layout.proofs.remembered.Lawful.{Roomy, FitsWord, remembered_length, work_lawful, tells_fits}
+use Rattle.btf_layout.proofs.remembered.Lawful.{HoldsTypes, FitsWord, remembered_length, work_lawful, tells_fits}
 use Rattle.btf_layout.proofs.remembered.Visits.{Counted, Holds, align_holds}
 use Rattle.btf_layout.specs.asked.Asked.{work_asks}
 use Rattle.proof_demands.specs.alignment_memory.Work.{Agree}
@@ -241,7 +241,7 @@ module _ (b : TypeTable) (some : 1 ≤ b.types) (B : Rules) (small : B.ptr_sz �
       other_word i n m = remembered_other types id (coded s) (member_count (B.type_by_id id)) w i n m
 
   abbrev Good : List ℕ → List ℕ → Type 0
-  Good u w = Roomy types w × Agree w u
+  Good u w = HoldsTypes types w × Agree w u
 
   law : (u : List ℕ) → Lawful K types (Good u) FitsWord
   law u = record {

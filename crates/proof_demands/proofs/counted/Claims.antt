@@ -10,7 +10,7 @@ use Rattle.spec_type_table.specs.Table.{btf_of}
 use Rattle.spec_c_dumper.specs.needs.Lists.{Ls}
 use Rattle.spec_c_dumper.specs.needs.Session.{Known}
 use Rattle.spec_c_dumper.specs.alignment_once.Once.{Table, members_to}
-use Rattle.spec_c_dumper.specs.alignment_once.Writers.{Asks, Minded, machine_once, answer_once, after_once}
+use Rattle.spec_c_dumper.specs.alignment_once.Writers.{Asks, Remembering, machine_once, answer_once, after_once}
 use Rattle.btf_layout.specs.remembered.Words.{work_keep}
 use Rattle.spec_opening.specs.Causes.{opening_number}
 use Rattle.spec_session.specs.session.Turns.{Call}
@@ -37,14 +37,14 @@ module _ (p modes : ℕ) (s : List ℕ) (n : ℕ) (c : Call) (rs : List Req) (a 
   B = opened_table p modes s n
 
   defined_is : (run (X₂ p modes s n ok) (table_of B) rs (begun₂ p modes s n ok)).mach.known.names ≡ defined_after p modes s n rs
-  defined_is = ap (λ (S : Sess (Ls (Known (Minded Names Table)))). S.mach.known.names) (after_run _ _ B rs (begun₂ p modes s n ok))
+  defined_is = ap (λ (S : Sess (Ls (Known (Remembering Names Table)))). S.mach.known.names) (after_run _ _ B rs (begun₂ p modes s n ok))
 
   count_defined : c.session.visits ≡ (defined_after p modes s n rs).visits
-  count_defined = (after_kept p modes s n ok a).visits ∙ ap (λ (u : Minded Names Table). u.visits) defined_is
+  count_defined = (after_kept p modes s n ok a).visits ∙ ap (λ (u : Remembering Names Table). u.visits) defined_is
 
   memory_defined : c.session.«open» ≡ true → (id : ℕ) → (work_keep B.type_cnt B).recall c.work id ≡ (defined_after p modes s n rs).memory id
   unfolding btf_of
-  memory_defined o id = (after_kept p modes s n ok a).same (sym (after_holds p modes s n ok a).is_open ∙ o) id ∙ ap (λ (u : Minded Names Table). u.memory id) defined_is
+  memory_defined o id = (after_kept p modes s n ok a).same (sym (after_holds p modes s n ok a).is_open ∙ o) id ∙ ap (λ (u : Remembering Names Table). u.memory id) defined_is
 
   pub counted_visits : CountedCalls p modes s n c rs
   counted_visits = record {

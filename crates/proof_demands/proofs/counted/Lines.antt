@@ -27,11 +27,11 @@ use Rattle.proof_demands.specs.name_counts.Alike.{Alike}
 use Rattle.proof_demands.proofs.name_counts.Table.{fits_table}
 use Rattle.spec_c_dumper.specs.alignment_once.Once.{Remembered, Known, unknown, known, Keep, Once, Asking, Tells, Right, Table, table_keep}
 use Rattle.spec_c_dumper.specs.alignment_once.Steps.{padding_once, body_once}
-use Rattle.spec_c_dumper.specs.alignment_once.Writers.{answered, given_once, definition_once, forward_once, Minded, minded, carried, minded_asks}
+use Rattle.spec_c_dumper.specs.alignment_once.Writers.{answered, given_once, definition_once, forward_once, Remembering, remembering_names, carried, remembering_asks}
 use Rattle.spec_c_dumper.proofs.alignment_once.Right.{same_or}
 use Rattle.spec_c_dumper.proofs.alignment_once.Tables.{table_lawful}
 use Rattle.btf_layout.specs.remembered.Words.{seen_word, decoded, work_keep}
-use Rattle.btf_layout.proofs.remembered.Lawful.{Roomy, FitsWord, work_lawful, tells_fits}
+use Rattle.btf_layout.proofs.remembered.Lawful.{HoldsTypes, FitsWord, work_lawful, tells_fits}
 use Rattle.btf_layout.specs.asked.Asked.{work_asks}
 use Rattle.btf_layout.proofs.refusals.InWork.{remember_keeps}
 use Rattle.proof_demands.specs.alignment_memory.Work.{Agree, Sane}
@@ -81,7 +81,7 @@ module _ (n id : ℕ) (l : n ≤ id) where
       off false = refl
 
 -- w is the work after opening, N are names that are alike those in the work
-module _ (b : TypeTable) (e : ℕ) (s w : List ℕ) (Z : Sane b (btf_of b s w)) (room : Roomy b.types w) (N : Naming Names) (R : RelNaming (Alike b e s w) (NameFits b s w) (FitsValue b s w) (work_naming b) N) where
+module _ (b : TypeTable) (e : ℕ) (s w : List ℕ) (Z : Sane b (btf_of b s w)) (room : HoldsTypes b.types w) (N : Naming Names) (R : RelNaming (Alike b e s w) (NameFits b s w) (FitsValue b s w) (work_naming b) N) where
   abbrev B : Rules
   B = btf_of b s w
 
@@ -95,7 +95,7 @@ module _ (b : TypeTable) (e : ℕ) (s w : List ℕ) (Z : Sane b (btf_of b s w)) 
   abbrev Linked : Names → List ℕ → Table → Type 0
   Linked u v f = Alike b e s w v u × Right K B v × ((id : ℕ) → K.recall v id ≡ f id)
 
-  abbrev pub Pair : List ℕ → Minded Names Table → Type 0
+  abbrev pub Pair : List ℕ → Remembering Names Table → Type 0
   Pair v u = Linked u.names v u.memory
 
   agree : (id : ℕ) (x : Remembered) (v : List ℕ) → Agree (K.remember id x v) v
@@ -119,7 +119,7 @@ module _ (b : TypeTable) (e : ℕ) (s w : List ℕ) (Z : Sane b (btf_of b s w)) 
     λ d. same_or d id (λ q. subst (λ (y : ℕ). K.recall (K.remember id x v) y ≡ (table_keep n).remember id x f y) (sym q) here) (λ ne. (work_lawful n B).other id x v d ne ∙ p.2 d ∙ sym ((table_lawful n).other id x f d ne)),
   )
     where
-      long : Roomy n v
+      long : HoldsTypes n v
       long = subst (λ (k : ℕ). n * 16 ≤ k / 4) (sym p.0.kept.long) room
 
       here : K.recall (K.remember id x v) id ≡ (table_keep n).remember id x f id
@@ -130,10 +130,10 @@ module _ (b : TypeTable) (e : ℕ) (s w : List ℕ) (Z : Sane b (btf_of b s w)) 
           (cases_lt id n)
 
   -- ---- naming
-  moved : (u : Minded Names Table) (v v' : List ℕ) (u' : Names) → Pair v u → ((j : ℕ) → get_field v' j 15 ≡ get_field v j 15) → Alike b e s w v' u' → Linked u' v' u.memory
+  moved : (u : Remembering Names Table) (v v' : List ℕ) (u' : Names) → Pair v u → ((j : ℕ) → get_field v' j 15 ≡ get_field v j 15) → Alike b e s w v' u' → Linked u' v' u.memory
   moved u v v' u' p h a = (a, λ id x q. p.1 id x (sym (recall_moved v v' h id) ∙ q), λ id. recall_moved v v' h id ∙ p.2 id)
 
-  named : RelNaming Pair (NameFits b s w) (FitsValue b s w) (work_naming b) (minded N)
+  named : RelNaming Pair (NameFits b s w) (FitsValue b s w) (work_naming b) (remembering_names N)
   unfolding work_naming
   named = record {
     rel_type = λ space id name fit q v u p. let r = R.rel_type space id name fit q v u.names p.0 in (r.0, moved u v _ _ p (type_aligned n Z.some id v) r.1);
@@ -142,7 +142,7 @@ module _ (b : TypeTable) (e : ℕ) (s w : List ℕ) (Z : Sane b (btf_of b s w)) 
 
   -- ---- questions
   module _ {A : Type 0} (ask₁ : Asking (List ℕ) A) (ask₂ : Asking Table A) (h : (u : Names) (v : List ℕ) (f : Table) (k₁ k₂ : ℕ) → Linked u v f → SameOnce (Linked u) (ask₁ v k₁) (ask₂ f k₂)) where
-    given_same : (f : A → Writer (List ℕ)) (g : A → Writer (Minded Names Table)) → ((a : A) → RelW Pair (f a) (g a))
+    given_same : (f : A → Writer (List ℕ)) (g : A → Writer (Remembering Names Table)) → ((a : A) → RelW Pair (f a) (g a))
         → RelW Pair (given_once (λ v. ask₁ v (get_field v 0 2)) f) (given_once (λ u. carried u (ask₂ u.memory u.visits)) g)
     unfolding given_once answered carried
     given_same f g on v u p = by (h u.names v u.memory (get_field v 0 2) u.visits p)
@@ -151,21 +151,21 @@ module _ (b : TypeTable) (e : ℕ) (s w : List ℕ) (Z : Sane b (btf_of b s w)) 
         by (same_found a m₁ m₂ k₁ k₂ q) = on a m₁ (record { names = u.names; memory = m₂; visits = k₂ }) q
         by (same_refused c m₁ m₂ k₁ k₂) = rel_stop Pair c v u p
 
-  on_body : (is_struct : Bool) (id sz : ℕ) (ms : List Member) (f : Bool → Writer (List ℕ)) (g : Bool → Writer (Minded Names Table)) → ((p : Bool) → RelW Pair (f p) (g p))
-      → RelW Pair (given_once ((work_asks n B).body is_struct id sz ms) f) (given_once ((minded_asks (table_keep n) B).body is_struct id sz ms) g)
+  on_body : (is_struct : Bool) (id sz : ℕ) (ms : List Member) (f : Bool → Writer (List ℕ)) (g : Bool → Writer (Remembering Names Table)) → ((p : Bool) → RelW Pair (f p) (g p))
+      → RelW Pair (given_once ((work_asks n B).body is_struct id sz ms) f) (given_once ((remembering_asks (table_keep n) B).body is_struct id sz ms) g)
   on_body is_struct id sz ms = given_same (body_once K B is_struct id sz ms) (body_once (table_keep n) B is_struct id sz ms)
-      (λ u. same_body (Linked u) K (table_keep n) B n (Roomy n) FitsWord (work_lawful n B) (λ v f p. p.2) (λ v f p. p.1) (keeps u) is_struct id sz ms)
+      (λ u. same_body (Linked u) K (table_keep n) B n (HoldsTypes n) FitsWord (work_lawful n B) (λ v f p. p.2) (λ v f p. p.1) (keeps u) is_struct id sz ms)
 
-  on_pads : (offset : ℕ) (x : Member) (packed : Bool) (f : List Pad → Writer (List ℕ)) (g : List Pad → Writer (Minded Names Table)) → ((p : List Pad) → RelW Pair (f p) (g p))
-      → RelW Pair (given_once ((work_asks n B).padding offset x packed) f) (given_once ((minded_asks (table_keep n) B).padding offset x packed) g)
+  on_pads : (offset : ℕ) (x : Member) (packed : Bool) (f : List Pad → Writer (List ℕ)) (g : List Pad → Writer (Remembering Names Table)) → ((p : List Pad) → RelW Pair (f p) (g p))
+      → RelW Pair (given_once ((work_asks n B).padding offset x packed) f) (given_once ((remembering_asks (table_keep n) B).padding offset x packed) g)
   on_pads offset x packed = given_same (padding_once K B offset x packed) (padding_once (table_keep n) B offset x packed)
-      (λ u. same_padding (Linked u) K (table_keep n) B n (Roomy n) FitsWord (work_lawful n B) (λ v f p. p.2) (λ v f p. p.1) (keeps u) offset x packed)
+      (λ u. same_padding (Linked u) K (table_keep n) B n (HoldsTypes n) FitsWord (work_lawful n B) (λ v f p. p.2) (λ v f p. p.1) (keeps u) offset x packed)
 
   -- ---- the lines
-  pub definition_pair : (x : ℕ) → RelW Pair (definition_once (work_asks n B) (work_naming b) B x (B.type_by_id x)) (definition_once (minded_asks (table_keep n) B) (minded N) B x (B.type_by_id x))
+  pub definition_pair : (x : ℕ) → RelW Pair (definition_once (work_asks n B) (work_naming b) B x (B.type_by_id x)) (definition_once (remembering_asks (table_keep n) B) (remembering_names N) B x (B.type_by_id x))
   definition_pair x =
-      both_definition (work_asks n B) (minded_asks (table_keep n) B) (work_naming b) (minded N) (NameFits b s w) (FitsValue b s w) (λ w₁ w₂. RelW Pair w₁ w₂) (rel_closed Pair (NameFits b s w) (FitsValue b s w) (work_naming b) (minded N) named) B (fits_table b s w) on_body on_pads x (B.type_by_id x) (fits_table b s w x)
+      both_definition (work_asks n B) (remembering_asks (table_keep n) B) (work_naming b) (remembering_names N) (NameFits b s w) (FitsValue b s w) (λ w₁ w₂. RelW Pair w₁ w₂) (rel_closed Pair (NameFits b s w) (FitsValue b s w) (work_naming b) (remembering_names N) named) B (fits_table b s w) on_body on_pads x (B.type_by_id x) (fits_table b s w x)
 
-  pub forward_pair : (x : ℕ) → RelW Pair (forward_once (work_asks n B) (work_naming b) B x (B.type_by_id x)) (forward_once (minded_asks (table_keep n) B) (minded N) B x (B.type_by_id x))
+  pub forward_pair : (x : ℕ) → RelW Pair (forward_once (work_asks n B) (work_naming b) B x (B.type_by_id x)) (forward_once (remembering_asks (table_keep n) B) (remembering_names N) B x (B.type_by_id x))
   forward_pair x =
-      both_forward (work_asks n B) (minded_asks (table_keep n) B) (work_naming b) (minded N) (NameFits b s w) (FitsValue b s w) (λ w₁ w₂. RelW Pair w₁ w₂) (rel_closed Pair (NameFits b s w) (FitsValue b s w) (work_naming b) (minded N) named) B (fits_table b s w) on_body on_pads x (B.type_by_id x) (fits_table b s w x)
+      both_forward (work_asks n B) (remembering_asks (table_keep n) B) (work_naming b) (remembering_names N) (NameFits b s w) (FitsValue b s w) (λ w₁ w₂. RelW Pair w₁ w₂) (rel_closed Pair (NameFits b s w) (FitsValue b s w) (work_naming b) (remembering_names N) named) B (fits_table b s w) on_body on_pads x (B.type_by_id x) (fits_table b s w x)

@@ -24,7 +24,7 @@ use Rattle.spec_type_table.specs.declared.types.TypeTable.{TypeTable}
 use Rattle.spec_type_table.specs.Cells.{get_field, put_field}
 use Rattle.spec_type_table.specs.Table.{btf_of, work_naming}
 use Rattle.c_dumper_dependency_order.specs.order_state.Work.{code, work_store}
-use Rattle.spec_session.specs.emission.Sheet.{Sheet, sheet_store, emptied, sheet_of, line_in, work_machine}
+use Rattle.spec_session.specs.emission.Slices.{Slices, slices_store, emptied, slices_of, line_in, work_machine}
 use Rattle.spec_c_dumper.specs.rules.Request.{listed_out, dumped}
 use Rattle.spec_c_dumper.specs.needs.Needs.{WF}
 use Rattle.spec_c_dumper.specs.needs.Lists.{Piece, defines, other, Ls, put_line, cannot}
@@ -36,13 +36,13 @@ use Rattle.spec_c_dumper.proofs.needs.Session.{machine_lawful}
 use Rattle.proof_demands.specs.name_counts.Indexed.{Indexed, NameFits, FitsValue}
 use Rattle.proof_demands.specs.name_counts.Alike.{Alike}
 use Rattle.spec_c_dumper.specs.alignment_once.Once.{Keep, Table, table_keep}
-use Rattle.spec_c_dumper.specs.alignment_once.Writers.{Minded, minded, minded_asks, machine_once}
+use Rattle.spec_c_dumper.specs.alignment_once.Writers.{Remembering, remembering_names, remembering_asks, machine_once}
 use Rattle.spec_c_dumper.proofs.alignment_once.Tables.{Any, Each, table_lawful}
-use Rattle.spec_c_dumper.proofs.alignment_once.Session.{Beside, minded_sound, machines_alike}
+use Rattle.spec_c_dumper.proofs.alignment_once.Session.{Beside, remembering_sound, machines_alike}
 use Rattle.btf_layout.specs.remembered.Words.{work_keep}
-use Rattle.btf_layout.proofs.remembered.Lawful.{Roomy}
+use Rattle.btf_layout.proofs.remembered.Lawful.{HoldsTypes}
 use Rattle.proof_demands.specs.alignment_memory.Work.{Sane}
-use Rattle.proof_demands.specs.demands.Sheet.{Bears, Shows}
+use Rattle.proof_demands.specs.demands.Representation.{Bears, Shows}
 use Rattle.proof_demands.proofs.demands.Start.{start_step}
 use Rattle.proof_demands.proofs.demands.Request.{Related, alike_store, alike_steps, list_same}
 use Rattle.spec_c_dumper.proofs.needs.Emission.{AlikeSteps, eeach_alike, emit_alike}
@@ -55,7 +55,7 @@ emptied_aligned zero v j = refl
 emptied_aligned (suc k) v j = get_put_other (emptied k v) (k * 16 + 11) (j * 16 + 15) 0 (λ q. omega (arith, q)) ∙ emptied_aligned k v j
 
 -- w is the work after opening; the text so far is `front`, and the room of the request is `size`
-module _ (b : TypeTable) (e : ℕ) (s w : List ℕ) (I : Indexed b e s w) (Z : Sane b (btf_of b s w)) (room : Roomy b.types w) (N : Naming Names) (R : RelNaming (Alike b e s w) (NameFits b s w) (FitsValue b s w) (work_naming b) N)
+module _ (b : TypeTable) (e : ℕ) (s w : List ℕ) (I : Indexed b e s w) (Z : Sane b (btf_of b s w)) (room : HoldsTypes b.types w) (N : Naming Names) (R : RelNaming (Alike b e s w) (NameFits b s w) (FitsValue b s w) (work_naming b) N)
     (wf : WF (table_of (btf_of b s w))) where
   abbrev B : Rules
   B = btf_of b s w
@@ -71,13 +71,13 @@ module _ (b : TypeTable) (e : ℕ) (s w : List ℕ) (I : Indexed b e s w) (Z : S
 
   -- the definition: names, and a memory that is a function
   abbrev State : Type 0
-  State = Ls (Known (Minded Names Table))
+  State = Ls (Known (Remembering Names Table))
 
-  abbrev X₁ : Machine Sheet
+  abbrev X₁ : Machine Slices
   X₁ = work_machine b B
 
   abbrev X₂ : Machine State
-  X₂ = machine_once (minded_asks (table_keep B.type_cnt) B) (minded N) B
+  X₂ = machine_once (remembering_asks (table_keep B.type_cnt) B) (remembering_names N) B
 
   abbrev X : Machine Plain
   X = machine_by N B
@@ -87,8 +87,8 @@ module _ (b : TypeTable) (e : ℕ) (s w : List ℕ) (I : Indexed b e s w) (Z : S
 
   pub near_alike : AlikeMachine X₂ X B.type_cnt (Sized B.type_cnt) Near
   near_alike =
-      machines_alike (minded_asks (table_keep B.type_cnt) B) (minded N) N B wf Z.ends (Beside (table_keep B.type_cnt) N B Any Each (table_lawful B.type_cnt) (λ id t q l. tt) wf Z.ends)
-      (minded_sound (table_keep B.type_cnt) N B Any Each (table_lawful B.type_cnt) (λ id t q l. tt) wf Z.ends)
+      machines_alike (remembering_asks (table_keep B.type_cnt) B) (remembering_names N) N B wf Z.ends (Beside (table_keep B.type_cnt) N B Any Each (table_lawful B.type_cnt) (λ id t q l. tt) wf Z.ends)
+      (remembering_sound (table_keep B.type_cnt) N B Any Each (table_lawful B.type_cnt) (λ id t q l. tt) wf Z.ends)
 
   -- the work and the definition's memory recall the same
   abbrev pub Recalls : List ℕ → State → Type 0
@@ -98,46 +98,46 @@ module _ (b : TypeTable) (e : ℕ) (s w : List ℕ) (I : Indexed b e s w) (Z : S
   recalls_moved v v' t h r id = recall_moved b e s w Z room N R v v' h id ∙ r id
 
   module _ (front : List ℕ) (size : ℕ) where
-    abbrev Rel : Sheet → Plain → Type 0
+    abbrev Rel : Slices → Plain → Type 0
     Rel m p = Related b e s w I Z N R wf front size m p
 
     -- beside a state of the plain machine
-    pub record Linked (m : Sheet) (t : State) : Type 0 where
+    pub record Linked (m : Slices) (t : State) : Type 0 where
       pub plain : Plain
       pub related : Rel m plain
       pub near : Near t plain
       pub recalls : Recalls m.work t
 
     -- ---- lines
-    abbrev SameOut : Out Sheet → Out State → Type 0
+    abbrev SameOut : Out Slices → Out State → Type 0
     SameOut (wrote m) (wrote t) = Recalls m.work t
     SameOut (wrote m) (stuck c) = Unit {0}
     SameOut (stuck c) (wrote t) = Unit {0}
     SameOut (stuck c) (stuck d) = Unit {0}
 
-    joined : {r₁ : Out Sheet} {r : Out Plain} {r₂ : Out State} → BothOut Rel r₁ r → BothOut Near r₂ r → SameOut r₁ r₂ → BothOut Linked r₁ r₂
+    joined : {r₁ : Out Slices} {r : Out Plain} {r₂ : Out State} → BothOut Rel r₁ r → BothOut Near r₂ r → SameOut r₁ r₂ → BothOut Linked r₁ r₂
     joined (both_wrote m p q) (both_wrote t _ h) y = both_wrote m t (record { plain = p; related = q; near = h; recalls = y })
     joined (both_stuck c) (both_stuck _) y = both_stuck c
 
-    none_said : (r : Out Sheet) (c : ℕ) → SameOut r (stuck c)
+    none_said : (r : Out Slices) (c : ℕ) → SameOut r (stuck c)
     none_said (wrote m) c = tt
     none_said (stuck d) c = tt
 
-    abbrev PairNow : List ℕ → Minded Names Table → Type 0
+    abbrev PairNow : List ℕ → Remembering Names Table → Type 0
     PairNow v u = Pair b e s w Z room N R v u
 
-    line_same : (mk : List ℕ → Piece) (m : Sheet) (t : State) (len : ℕ) {s₁ : Said (List ℕ)} {s₂ : Said (Minded Names Table)} → RelSaid PairNow s₁ s₂
-        → SameOut (sheet_of m.len (put_said m.text (Ok m.at) s₁)) (put_line mk t (line_of t.room len s₂))
-    unfolding sheet_of put_said with_names line_of fitting
+    line_same : (mk : List ℕ → Piece) (m : Slices) (t : State) (len : ℕ) {s₁ : Said (List ℕ)} {s₂ : Said (Remembering Names Table)} → RelSaid PairNow s₁ s₂
+        → SameOut (slices_of m.len (put_said m.text (Ok m.at) s₁)) (put_line mk t (line_of t.room len s₂))
+    unfolding slices_of put_said with_names line_of fitting
     line_same mk m t len (same v u x p) = by (put_text m.text (Ok m.at) x) x (leb (len + length (bytes x)) (smaller t.room 1073741824))
       where
-        by : (o : Put) (y : Text) (d : Bool) → SameOut (sheet_of m.len (with_names v o)) (put_line mk t (elim d [ true ↦ fitting len u y | false ↦ cannot 17 ]))
-        by o y false = none_said (sheet_of m.len (with_names v o)) 17
-        by o (cut a c) true = none_said (sheet_of m.len (with_names v o)) c
+        by : (o : Put) (y : Text) (d : Bool) → SameOut (slices_of m.len (with_names v o)) (put_line mk t (elim d [ true ↦ fitting len u y | false ↦ cannot 17 ]))
+        by o y false = none_said (slices_of m.len (with_names v o)) 17
+        by o (cut a c) true = none_said (slices_of m.len (with_names v o)) c
         by (done z at) (whole a) true = p.2
         by (stopped c) (whole a) true = tt
 
-    module _ (m : Sheet) (t : State) (q : Linked m t) where
+    module _ (m : Slices) (t : State) (q : Linked m t) where
       pair_of : PairNow m.work t.known.names
       unfolding btf_of
       pair_of = (subst (λ (u : Names). Alike b e s w m.work u) (sym q.near.names.0) q.related.bears.names, q.related.bears.memory.right, q.recalls)
@@ -155,7 +155,7 @@ module _ (b : TypeTable) (e : ℕ) (s w : List ℕ) (I : Indexed b e s w) (Z : S
       body_same x = line_same (defines x) m t t.known.text_len (definition_pair b e s w Z room N R x m.work t.known.names pair_of)
 
     -- ---- the other steps
-    put_recalls : (m : Sheet) (t : State) → Linked m t → (x f c : ℕ) → (f ≡ 15 → ⊥) → f < 16 → Recalls (put_field m.work x f c) t
+    put_recalls : (m : Slices) (t : State) → Linked m t → (x f c : ℕ) → (f ≡ 15 → ⊥) → f < 16 → Recalls (put_field m.work x f c) t
     put_recalls m t q x f c n l = recalls_moved m.work (put_field m.work x f c) t (λ j. get_put_other m.work (x * 16 + f) (j * 16 + 15) c (λ z. n (omega (arith, z, l)))) q.recalls
 
     alike₁ : AlikeStore X₁.store X.store T.count (Sized T.count) Rel
@@ -165,7 +165,7 @@ module _ (b : TypeTable) (e : ℕ) (s w : List ℕ) (I : Indexed b e s w) (Z : S
     steps₁ = alike_steps b e s w I Z N R wf front size
 
     linked_store : AlikeStore X₁.store X₂.store T.count (Sized T.count) Linked
-    unfolding work_machine sheet_store work_store
+    unfolding work_machine slices_store work_store
     linked_store = record {
       a_good = λ m t q. record { marks_n = ap (λ (l : Ls ℕ). length l.marks) q.near.rest ∙ q.near.sized.marks_n; emits_n = ap (λ (l : Ls ℕ). length l.emits) q.near.rest ∙ q.near.sized.emits_n };
       a_get = λ m t q x l. alike₁.a_get m q.plain q.related x l ∙ sym (near_alike.a_store.a_get t q.plain q.near x l);
@@ -208,30 +208,30 @@ module _ (b : TypeTable) (e : ℕ) (s w : List ℕ) (I : Indexed b e s w) (Z : S
 
     -- ---- a request
     -- what a request comes to: accepted by both, which then recall the same, or refused by both
-    pub data Came (S : Sess State) : Out Sheet → Answer State → Type 0 where
-      came_served : (m : Sheet) (t : State) (asked : List ℕ) → Recalls m.work t → Came S (wrote m) (record { sess = record { is_open = true; mach = t; asked = asked }; number = 0 })
+    pub data Came (S : Sess State) : Out Slices → Answer State → Type 0 where
+      came_served : (m : Slices) (t : State) (asked : List ℕ) → Recalls m.work t → Came S (wrote m) (record { sess = record { is_open = true; mach = t; asked = asked }; number = 0 })
       came_refused : (c : ℕ) → Came S (stuck c) (record { sess = record { is_open = false; mach = S.mach; asked = S.asked }; number = c })
 
     -- the laws of the order list do not read the lines
     abbrev X₃ : Machine State
-    X₃ = machine_by (minded N) B
+    X₃ = machine_by (remembering_names N) B
 
     abbrev lawful : MLawful X₃ (Sized T.count) T.count
-    lawful = machine_lawful (minded {M = Table} N) B T.count
+    lawful = machine_lawful (remembering_names {M = Table} N) B T.count
 
-    abbrev Goes : State → Sheet → State → Bool → Type 0
+    abbrev Goes : State → Slices → State → Bool → Type 0
     Goes t₀ m t c = Went X₁.store X₂.store T (Sized T.count) lawful.law (OrderKeeps X₃ (Sized T.count)) lawful.framed wf.below Linked linked_store t₀ m t c
 
-    list_linked : (m : Sheet) (t : State) → Linked m t → X₁.store.list m ≡ X₂.store.list t
+    list_linked : (m : Slices) (t : State) → Linked m t → X₁.store.list m ≡ X₂.store.list t
     list_linked m t q = list_same b e s w I Z N R wf front size m q.plain q.related ∙ sym (ap (λ (k : Ls ℕ). k.olist) q.near.rest)
 
     module _ (S : Sess State) (x : ℕ) where
-      emitted_came : {r₁ : Out Sheet} {r : Out State} → BothOut Linked r₁ r → Came S (obind r₁ (λ m. wrote (X₁.start 0 m))) (emitted X₂ T S x r)
+      emitted_came : {r₁ : Out Slices} {r : Out State} → BothOut Linked r₁ r → Came S (obind r₁ (λ m. wrote (X₁.start 0 m))) (emitted X₂ T S x r)
       unfolding obind emitted shut work_machine
       emitted_came (both_wrote m t q) = came_served _ t _ (recalls_moved m.work (emptied m.len m.work) t (emptied_aligned m.len m.work) q.recalls)
       emitted_came (both_stuck c) = came_refused c
 
-      ordered_came : (t₀ : State) {r₁ : Res Sheet} {r : Res State} → Both (Goes t₀) r₁ r → Came S (listed_out X₁ T r₁) (ordered X₂ T S x r)
+      ordered_came : (t₀ : State) {r₁ : Res Slices} {r : Res State} → Both (Goes t₀) r₁ r → Came S (listed_out X₁ T r₁) (ordered X₂ T S x r)
       unfolding listed_out ordered shut
       ordered_came t₀ (both m t c h) =
           emitted_came (subst (λ (k : List ℕ). BothOut Linked (eeach (λ m' y. emit X₁ T 512 m' y 0) k m) (eeach (λ t' y. emit X₂ T 512 t' y 0) (X₂.store.list t) t)) (sym (list_linked m t h.live.related))
@@ -239,7 +239,7 @@ module _ (b : TypeTable) (e : ℕ) (s w : List ℕ) (I : Indexed b e s w) (Z : S
       ordered_came t₀ (neither c) = came_refused c
 
       -- m: the sheet of the request, with an empty order list; p: the plain machine before it
-      pub request_came : (m : Sheet) (p : Plain) → m.len ≡ 0 → Bears b e s w m.work 0 (X.start 0 p) → Shows b e s w front m.text m.at (X.start size p) → Near S.mach p → Recalls m.work S.mach → x < T.count
+      pub request_came : (m : Slices) (p : Plain) → m.len ≡ 0 → Bears b e s w m.work 0 (X.start 0 p) → Shows b e s w front m.text m.at (X.start size p) → Near S.mach p → Recalls m.work S.mach → x < T.count
           → Came S (dumped X₁ T m x) (ordered X₂ T S x (ordering X₂ T size S x))
       unfolding dumped
       request_came m p z h sh near r l =

@@ -19,7 +19,7 @@ use Rattle.spec_type_table.specs.Table.{btf_of}
 use Rattle.spec_opening.specs.Table.{enumerators_of}
 use Rattle.spec_opening.specs.Opened.{Outcome, work_of}
 use Rattle.spec_opening.specs.Causes.{opening_number}
-use Rattle.spec_session.specs.emission.Sheet.{Sheet, work_machine}
+use Rattle.spec_session.specs.emission.Slices.{Slices, work_machine}
 use Rattle.spec_c_dumper.specs.rules.Request.{dumped}
 use Rattle.spec_session.specs.declared.session.Session.{Session}
 use Rattle.spec_session.specs.session.Answers.{number_of, answer_of}
@@ -35,19 +35,19 @@ use Rattle.spec_c_dumper.proofs.needs.Alike.{BothSess, BothAnswer, single_alike,
 use Rattle.spec_c_dumper.proofs.needs.Lists.{Sized}
 use Rattle.spec_c_dumper.proofs.needs.Session.{machine_lawful}
 use Rattle.spec_c_dumper.specs.alignment_once.Once.{Table, table_keep, members_to, paid_to}
-use Rattle.spec_c_dumper.specs.alignment_once.Writers.{Minded, minded, minded_asks, machine_once}
+use Rattle.spec_c_dumper.specs.alignment_once.Writers.{Remembering, remembering_names, remembering_asks, machine_once}
 use Rattle.spec_c_dumper.proofs.alignment_once.Counted.{paid_most}
 use Rattle.spec_c_dumper.proofs.alignment_once.Tables.{Any, Each, table_lawful}
-use Rattle.spec_c_dumper.proofs.alignment_once.Session.{Beside, minded_sound, starts, begins as begun}
+use Rattle.spec_c_dumper.proofs.alignment_once.Session.{Beside, remembering_sound, starts, begins as begun}
 use Rattle.btf_layout.specs.remembered.Words.{work_keep}
-use Rattle.btf_layout.proofs.remembered.Lawful.{Roomy}
-use Rattle.proof_demands.specs.alignment_memory.Work.{Minds, Sane}
+use Rattle.btf_layout.proofs.remembered.Lawful.{HoldsTypes}
+use Rattle.proof_demands.specs.alignment_memory.Work.{SoundMemory, Sane}
 use Rattle.proof_demands.specs.demands.Table.{header_of, names_in, machine_in}
 use Rattle.proof_demands.specs.demands.Session.{Holds, singles_for, made, After, after_open, after_one, after_all, after_list}
 use Rattle.proof_demands.proofs.demands.Described.{count_described}
 use Rattle.proof_demands.proofs.demands.Sound.{opened_wf}
-use Rattle.proof_demands.proofs.demands.Few.{few}
-use Rattle.proof_demands.proofs.demands.Minded.{opened_sane, opened_minds, none}
+use Rattle.proof_demands.proofs.demands.Counts.{few}
+use Rattle.proof_demands.proofs.demands.OpenedMemory.{opened_sane, opened_memory, none}
 use Rattle.proof_demands.proofs.demands.Named.{opened_indexed, opened_names}
 use Rattle.proof_demands.proofs.demands.Session.{Going, begins, positive, table_now, request_reach, BothReach, both_reached, both_ended, table_is, types_is, going, current, type_keeps, types_keeps, made_more, made_none, made_one, not_11, no_ids, after_holds}
 use Rattle.proof_demands.specs.counted.Counted.{defined_first}
@@ -98,17 +98,17 @@ module _ (p modes : ℕ) (s : List ℕ) (n : ℕ) (ok : opening_number p s n ≡
   Plain = Ls (Known Names)
 
   abbrev State : Type 0
-  State = Ls (Known (Minded Names Table))
+  State = Ls (Known (Remembering Names Table))
 
   abbrev X : Machine Plain
   X = machine_in p modes s n
 
   abbrev pub X₂ : Machine State
-  X₂ = machine_once (minded_asks (table_keep B.type_cnt) B) (minded N) B
+  X₂ = machine_once (remembering_asks (table_keep B.type_cnt) B) (remembering_names N) B
 
-  pub room_for : Roomy b.types w
+  pub room_for : HoldsTypes b.types w
   unfolding btf_of
-  room_for = (opened_minds p modes s n ok).roomy
+  room_for = (opened_memory p modes s n ok).roomy
 
   abbrev NearTo : State → Plain → Type 0
   NearTo t q = Near b e s w (opened_indexed p modes s n ok) Z room_for N (opened_names p modes s n ok) (opened_wf p modes s n ok) t q
@@ -117,7 +117,7 @@ module _ (p modes : ℕ) (s : List ℕ) (n : ℕ) (ok : opening_number p s n ≡
   Same v t = Recalls b e s w (opened_indexed p modes s n ok) Z room_for N (opened_names p modes s n ok) (opened_wf p modes s n ok) v t
 
   -- the visits that the work counts are those of the definition, where both remember the same types
-  counts : (v : List ℕ) (t : State) (q : Plain) → Minds B v → NearTo t q → Same v t → visits_in v ≡ t.known.names.visits
+  counts : (v : List ℕ) (t : State) (q : Plain) → SoundMemory B v → NearTo t q → Same v t → visits_in v ≡ t.known.names.visits
   unfolding visits_in btf_of
   counts v t q m h r =
       let paid : ℕ = paid_to B ((work_keep B.type_cnt B).recall v) B.type_cnt in
@@ -138,10 +138,10 @@ module _ (p modes : ℕ) (s : List ℕ) (n : ℕ) (ok : opening_number p s n ≡
   next_near = single_alike X₂ X T (Sized B.type_cnt) (machine_lawful N B B.type_cnt) (opened_wf p modes s n ok).below NearTo (near_alike b e s w (opened_indexed p modes s n ok) Z room_for N (opened_names p modes s n ok) (opened_wf p modes s n ok))
 
   module _ (len : ℕ) (v t : List ℕ) (room : ℕ) (L : Sess Plain) (g : Going p modes s n ok len v t room L) (A : Sess State) (h : Beside₂ A L) (r : Same v A.mach) (x : ℕ) where
-    abbrev sheet : Sheet
-    sheet = record { work = v; text = lent_to len t; at = 0; len = 0 }
+    abbrev slices : Slices
+    slices = record { work = v; text = lent_to len t; at = 0; len = 0 }
 
-    came_visits : (u : ℕ) → u ≡ A.mach.known.names.visits → {o : Out Sheet} {a : Answer State} → Came b e s w (opened_indexed p modes s n ok) Z room_for N (opened_names p modes s n ok) (opened_wf p modes s n ok) (take len t) room A o a
+    came_visits : (u : ℕ) → u ≡ A.mach.known.names.visits → {o : Out Slices} {a : Answer State} → Came b e s w (opened_indexed p modes s n ok) Z room_for N (opened_names p modes s n ok) (opened_wf p modes s n ok) (take len t) room A o a
         → ((c : ℕ) → o ≡ stuck c → 0 < c) → BothVisits (came_to len u t o) a
     unfolding came_to
     came_visits u q (came_served m t' asked y) k = visits_on _ m.work _ _ y
@@ -151,9 +151,9 @@ module _ (p modes : ℕ) (s : List ℕ) (n : ℕ) (ok : opening_number p s n ≡
     request_visits : (u : ℕ) → u ≡ A.mach.known.names.visits → x < T.count → BothVisits (requested b s x len u v t) (single X₂ T room A x)
     request_visits u q l =
         subst (λ (c : Reach). BothVisits c (single X₂ T room A x)) (sym (table_now p modes s n ok len v t room L g x u))
-        (subst (λ (a : Answer State). BothVisits (came_to len u t (dumped (work_machine b B) T sheet x)) a) (sym (single_open X₂ T room A x (h.same_open ∙ g.running) l))
+        (subst (λ (a : Answer State). BothVisits (came_to len u t (dumped (work_machine b B) T slices x)) a) (sym (single_open X₂ T room A x (h.same_open ∙ g.running) l))
         (came_visits u q
-        (request_came b e s w (opened_indexed p modes s n ok) Z room_for N (opened_names p modes s n ok) (opened_wf p modes s n ok) (take len t) room A x sheet L.mach refl g.bears (begins p modes s n ok len v t room L g x) h.alike r l)
+        (request_came b e s w (opened_indexed p modes s n ok) Z room_for N (opened_names p modes s n ok) (opened_wf p modes s n ok) (take len t) room A x slices L.mach refl g.bears (begins p modes s n ok len v t room L g x) h.alike r l)
         (positive p modes s n ok len v t room L g x)))
 
   onward_visits : (room : ℕ) {c : Reach} {a : Answer Plain} {a₂ : Answer State} (k₁ : ℕ → List ℕ → List ℕ → Reach) (k : Sess State → Answer State) → BothReach p modes s n ok room c a → BothVisits c a₂ → BothAnswer NearTo a₂ a
@@ -317,12 +317,12 @@ module _ (p modes : ℕ) (s : List ℕ) (n : ℕ) (ok : opening_number p s n ≡
 
   -- ---- from opening on
   abbrev pub begun₂ : Sess State
-  begun₂ = opened_by (minded N) B (defined_first p modes s n)
+  begun₂ = opened_by (remembering_names N) B (defined_first p modes s n)
 
   begins_near : Beside₂ begun₂ (opened B)
   begins_near =
-      starts (minded_asks (table_keep B.type_cnt) B) (minded N) N B (opened_wf p modes s n ok) Z.ends (Beside (table_keep B.type_cnt) N B Any Each (table_lawful B.type_cnt) (λ id t q l. tt) (opened_wf p modes s n ok) Z.ends)
-      (minded_sound (table_keep B.type_cnt) N B Any Each (table_lawful B.type_cnt) (λ id t q l. tt) (opened_wf p modes s n ok) Z.ends) (defined_first p modes s n) (no_names B)
+      starts (remembering_asks (table_keep B.type_cnt) B) (remembering_names N) N B (opened_wf p modes s n ok) Z.ends (Beside (table_keep B.type_cnt) N B Any Each (table_lawful B.type_cnt) (λ id t q l. tt) (opened_wf p modes s n ok) Z.ends)
+      (remembering_sound (table_keep B.type_cnt) N B Any Each (table_lawful B.type_cnt) (λ id t q l. tt) (opened_wf p modes s n ok) Z.ends) (defined_first p modes s n) (no_names B)
       (begun (table_keep B.type_cnt) N B Any Each (table_lawful B.type_cnt) (λ id t q l. tt) (opened_wf p modes s n ok) Z.ends (no_names B) (defined_first p modes s n).memory tt (λ id. refl))
 
   open_kept : (S : Session) (work text : List ℕ) → length work ≡ n → KeptCall (open_call S s work text p modes) (opened B) begun₂

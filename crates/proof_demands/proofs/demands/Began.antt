@@ -23,9 +23,9 @@ use Rattle.spec_c_dumper.specs.needs.Lists.{afresh}
 use Rattle.spec_c_dumper.specs.needs.Session.{opened}
 use Rattle.proof_demands.proofs.name_counts.Related.{alike_first}
 use Rattle.proof_demands.specs.demands.Table.{header_of, opened_table}
-use Rattle.proof_demands.specs.demands.Sheet.{Bears}
+use Rattle.proof_demands.specs.demands.Representation.{Bears}
 use Rattle.proof_demands.proofs.demands.Named.{opened_indexed, opened_fresh}
-use Rattle.proof_demands.proofs.demands.Minded.{opened_minds}
+use Rattle.proof_demands.proofs.demands.OpenedMemory.{opened_memory}
 
 zero_new : mark_of 0 ≡ new
 unfolding mark_of
@@ -63,5 +63,5 @@ module _ (p modes : ℕ) (s : List ℕ) (n : ℕ) (ok : opening_number p s n ≡
     marks_n = length-replicate b.types new;
     emits_n = length-replicate b.types new;
     fwds_n = length-replicate b.types false;
-    memory = opened_minds p modes s n ok;
+    memory = opened_memory p modes s n ok;
   }

@@ -38,10 +38,10 @@ use Rattle.proof_demands.proofs.name_counts.Table.{fits_table}
 use Rattle.spec_c_dumper.specs.alignment_once.Writers.{definition_once, forward_once}
 use Rattle.btf_layout.specs.asked.Asked.{work_asks}
 use Rattle.btf_layout.proofs.refusals.InWork.{definition_keeps, forward_keeps}
-use Rattle.proof_demands.specs.alignment_memory.Work.{Agree, Minds, Sane}
+use Rattle.proof_demands.specs.alignment_memory.Work.{Agree, SoundMemory, Sane}
 use Rattle.proof_demands.proofs.alignment_memory.Work.{Off, place_off, count_apart}
 use Rattle.proof_demands.proofs.alignment_memory.Lines.{both_said, Says, definition_says, forward_says}
-use Rattle.proof_demands.specs.demands.Sheet.{Bears, Shows, BothLine, lines_on, lines_stop}
+use Rattle.proof_demands.specs.demands.Representation.{Bears, Shows, BothLine, lines_on, lines_stop}
 
 -- a word that is no count of a name, no version of a type, none of the memory of alignments and not its count
 pub record Free (types i : ℕ) : Type 0 where
@@ -142,7 +142,7 @@ text_other a = append-nil a
 module _ (b : TypeTable) (e : ℕ) (s w : List ℕ) (I : Indexed b e s w) (mk : List ℕ → Piece) (mk_text : (a : List ℕ) → text_of (mk a ∷ []) ≡ a)
     (v : List ℕ) (len : ℕ) (t : Ls (Known Names)) (h : Bears b e s w v len t) (front text : List ℕ) (at : ℕ) (sh : Shows b e s w front text at t) where
   -- what writes names only keeps all but the names
-  bears_names : (v' : List ℕ) (u' : Names) (n : ℕ) (ps : List Piece) → Alike b e s w v' u' → btf_of b s v' ≡ btf_of b s v → ((i : ℕ) → Free b.types i → get_word v' i ≡ get_word v i) → Minds (btf_of b s w) v'
+  bears_names : (v' : List ℕ) (u' : Names) (n : ℕ) (ps : List Piece) → Alike b e s w v' u' → btf_of b s v' ≡ btf_of b s v → ((i : ℕ) → Free b.types i → get_word v' i ≡ get_word v i) → SoundMemory (btf_of b s w) v'
       → Bears b e s w v' len (record { marks = t.marks; olist = t.olist; emits = t.emits; fwds = t.fwds; room = t.room; known = record { names = u'; text_len = n }; pieces = ps })
   bears_names v' u' n ps a tab k mem = record {
     table = tab ∙ h.table;
@@ -169,7 +169,7 @@ module _ (b : TypeTable) (e : ℕ) (s w : List ℕ) (I : Indexed b e s w) (mk : 
       ap (λ (n : ℕ). line_by u' x (leb (length front + at + length (bytes x)) n)) (sym sh.room)
       ∙ ap (line_by u' x) (room_left (length front) at (length (bytes x)) (length text) sh.inside)
 
-  pub one_line : (s₁ : Said (List ℕ)) (s₂ : Said Names) → RelSaid (Alike b e s w) s₁ s₂ → btf_of b s (said_names s₁) ≡ btf_of b s v → ((i : ℕ) → Free b.types i → get_word (said_names s₁) i ≡ get_word v i) → Minds (btf_of b s w) (said_names s₁)
+  pub one_line : (s₁ : Said (List ℕ)) (s₂ : Said Names) → RelSaid (Alike b e s w) s₁ s₂ → btf_of b s (said_names s₁) ≡ btf_of b s v → ((i : ℕ) → Free b.types i → get_word (said_names s₁) i ≡ get_word v i) → SoundMemory (btf_of b s w) (said_names s₁)
       → BothLine b e s w front t.room len (put_said text (Ok at) s₁) (put_line mk t (line_of t.room (length front + at) s₂))
   unfolding said_names with_names written fitting bytes put_said put_text
   one_line _ _ (same v' u' x r) tab k mem =

@@ -20,7 +20,7 @@ use Rattle.spec_type_table.specs.declared.types.TypeTable.{TypeTable}
 use Rattle.spec_type_table.specs.Table.{btf_of, work_naming}
 use Rattle.c_dumper_dependency_order.specs.order_state.Work.{work_store}
 use Rattle.c_dumper_dependency_order.proofs.order_state.Frame.{table_list}
-use Rattle.spec_session.specs.emission.Sheet.{Sheet, sheet_store, emptied, sheet_of, line_in, work_machine}
+use Rattle.spec_session.specs.emission.Slices.{Slices, slices_store, emptied, slices_of, line_in, work_machine}
 use Rattle.spec_session.proofs.emission.Lawful.{emptied_length}
 use Rattle.spec_c_dumper.specs.rules.Request.{listed_out, dumped}
 use Rattle.spec_c_dumper.specs.needs.Needs.{WF}
@@ -32,7 +32,7 @@ use Rattle.spec_c_dumper.proofs.needs.Session.{machine_lawful}
 use Rattle.proof_demands.specs.name_counts.Indexed.{Indexed, NameFits, FitsValue}
 use Rattle.proof_demands.specs.name_counts.Alike.{Alike}
 use Rattle.proof_demands.specs.alignment_memory.Work.{Sane}
-use Rattle.proof_demands.specs.demands.Sheet.{Bears, Shows, BothLine, lines_on, lines_stop, BothRequest, both_served, both_refused}
+use Rattle.proof_demands.specs.demands.Representation.{Bears, Shows, BothLine, lines_on, lines_stop, BothRequest, both_served, both_refused}
 use Rattle.proof_demands.proofs.demands.Steps.{mark_step, emark_step, forwarded_step, listed_few, push_step}
 use Rattle.proof_demands.proofs.demands.Start.{start_step}
 use Rattle.proof_demands.proofs.demands.Lines.{body_line, leaf_line, forward_line, alias_line}
@@ -60,7 +60,7 @@ module _ (b : TypeTable) (e : ℕ) (s w : List ℕ) (I : Indexed b e s w) (Z : S
   abbrev State : Type 0
   State = Ls (Known Names)
 
-  abbrev X₁ : Machine Sheet
+  abbrev X₁ : Machine Slices
   X₁ = work_machine b B
 
   abbrev X : Machine State
@@ -69,7 +69,7 @@ module _ (b : TypeTable) (e : ℕ) (s w : List ℕ) (I : Indexed b e s w) (Z : S
   abbrev Fit : State → Type 0
   Fit = Sized T.count
 
-  pub record Related (m : Sheet) (t : State) : Type 0 where
+  pub record Related (m : Slices) (t : State) : Type 0 where
     pub bears : Bears b e s w m.work m.len t
     pub shows : Shows b e s w front m.text m.at t
     pub same_room : t.room ≡ room
@@ -93,14 +93,14 @@ module _ (b : TypeTable) (e : ℕ) (s w : List ℕ) (I : Indexed b e s w) (Z : S
     so_far = h.so_far ∙ ap text_of p;
   }
 
-  to_out : (len : ℕ) → len ≤ b.types → {o : Wrote (List ℕ)} {l : Out State} → BothLine b e s w front room len o l → BothOut Related (sheet_of len o) l
-  unfolding sheet_of
+  to_out : (len : ℕ) → len ≤ b.types → {o : Wrote (List ℕ)} {l : Out State} → BothLine b e s w front room len o l → BothOut Related (slices_of len o) l
+  unfolding slices_of
   to_out len m (lines_on text at v t be sh r) = both_wrote (record { work = v; text = text; at = at; len = len }) t (record { bears = be; shows = sh; same_room = r; short = m })
   to_out len m (lines_stop c) = both_stuck c
 
   -- ---- ordering
   pub alike_store : AlikeStore X₁.store X.store T.count Fit Related
-  unfolding work_machine sheet_store work_store
+  unfolding work_machine slices_store work_store
   alike_store = record {
     a_good = λ m t q. record { marks_n = q.bears.marks_n ∙ sym counted; emits_n = q.bears.emits_n ∙ sym counted };
     a_get = λ m t q x l. q.bears.marks x (below x l);
@@ -142,22 +142,22 @@ module _ (b : TypeTable) (e : ℕ) (s w : List ℕ) (I : Indexed b e s w) (Z : S
     a_body = λ m t q x l. to_out m.len q.short (at_room m t q (body_line b e s w I Z N R m.work m.len t q.bears front m.text m.at q.shows x));
   }
     where
-      at_room : (m : Sheet) (t : State) → Related m t → {o : Wrote (List ℕ)} {l : Out State} → BothLine b e s w front t.room m.len o l → BothLine b e s w front room m.len o l
+      at_room : (m : Slices) (t : State) → Related m t → {o : Wrote (List ℕ)} {l : Out State} → BothLine b e s w front t.room m.len o l → BothLine b e s w front room m.len o l
       at_room m t q {o} {l} h = subst (λ (r : ℕ). BothLine b e s w front r m.len o l) q.same_room h
 
   -- ---- a request
   abbrev lawful : MLawful X Fit T.count
   lawful = machine_lawful N B T.count
 
-  abbrev Goes : State → Sheet → State → Bool → Type 0
+  abbrev Goes : State → Slices → State → Bool → Type 0
   Goes t₀ m t c = Went X₁.store X.store T Fit lawful.law (OrderKeeps X Fit) lawful.framed wf.below Related alike_store t₀ m t c
 
-  pub list_same : (m : Sheet) (t : State) → Related m t → X₁.store.list m ≡ X.store.list t
-  unfolding work_machine sheet_store work_store
+  pub list_same : (m : Slices) (t : State) → Related m t → X₁.store.list m ≡ X.store.list t
+  unfolding work_machine slices_store work_store
   list_same m t q = q.bears.list
 
   module _ (S : Sess State) (x : ℕ) where
-    pub emitted_alike : {r₁ : Out Sheet} {r : Out State} → BothOut Related r₁ r → BothRequest b e s w front room S x (obind r₁ (λ m. wrote (X₁.start 0 m))) (emitted X T S x r)
+    pub emitted_alike : {r₁ : Out Slices} {r : Out State} → BothOut Related r₁ r → BothRequest b e s w front room S x (obind r₁ (λ m. wrote (X₁.start 0 m))) (emitted X T S x r)
     unfolding obind emitted shut work_machine
     emitted_alike (both_wrote m t q) =
         both_served (record { work = emptied m.len m.work; text = m.text; at = m.at; len = 0 }) t
@@ -165,7 +165,7 @@ module _ (b : TypeTable) (e : ℕ) (s w : List ℕ) (I : Indexed b e s w) (Z : S
         q.shows q.same_room
     emitted_alike (both_stuck c) = both_refused c
 
-    ordered_alike : (t₀ : State) {r₁ : Res Sheet} {r : Res State} → Both (Goes t₀) r₁ r → BothRequest b e s w front room S x (listed_out X₁ T r₁) (ordered X T S x r)
+    ordered_alike : (t₀ : State) {r₁ : Res Slices} {r : Res State} → Both (Goes t₀) r₁ r → BothRequest b e s w front room S x (listed_out X₁ T r₁) (ordered X T S x r)
     unfolding listed_out ordered shut
     ordered_alike t₀ (both m t c h) =
         emitted_alike (subst (λ (k : List ℕ). BothOut Related (eeach (λ m' y. emit X₁ T 512 m' y 0) k m) (eeach (λ t' y. emit X T 512 t' y 0) (X.store.list t) t)) (sym (list_same m t h.live.related))
@@ -173,7 +173,7 @@ module _ (b : TypeTable) (e : ℕ) (s w : List ℕ) (I : Indexed b e s w) (Z : S
     ordered_alike t₀ (neither c) = both_refused c
 
     -- m: the sheet of the request, with an empty order list
-    pub request_alike : (m : Sheet) → m.len ≡ 0 → Bears b e s w m.work 0 (X.start 0 S.mach) → Shows b e s w front m.text m.at (X.start room S.mach) → x < b.types
+    pub request_alike : (m : Slices) → m.len ≡ 0 → Bears b e s w m.work 0 (X.start 0 S.mach) → Shows b e s w front m.text m.at (X.start room S.mach) → x < b.types
         → BothRequest b e s w front room S x (dumped X₁ T m x) (ordered X T S x (ordering X T room S x))
     unfolding dumped
     request_alike m z h sh l =

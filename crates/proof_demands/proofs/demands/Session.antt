@@ -27,7 +27,7 @@ use Rattle.spec_opening.specs.Table.{types_of, enumerators_of}
 use Rattle.spec_opening.specs.Opened.{work_of, opened as soundly}
 use Rattle.spec_opening.specs.Causes.{opening_number}
 use Rattle.spec_opening.proofs.ReadBack.{work_length}
-use Rattle.spec_session.specs.emission.Sheet.{Sheet, work_machine}
+use Rattle.spec_session.specs.emission.Slices.{Slices, work_machine}
 use Rattle.spec_c_dumper.specs.rules.Request.{dumped}
 use Rattle.spec_session.specs.declared.session.Session.{Session}
 use Rattle.spec_session.specs.session.Answers.{Refused, number_of, value_of, answer_of}
@@ -41,11 +41,11 @@ use Rattle.spec_session.proofs.calls.Claims.{number_is, value_is, type_settles, 
 use Rattle.spec_c_dumper.specs.needs.Lists.{Ls, afresh}
 use Rattle.spec_c_dumper.specs.needs.Session.{Known, text_of, opened}
 use Rattle.proof_demands.specs.demands.Table.{header_of, names_in, machine_in}
-use Rattle.proof_demands.specs.demands.Sheet.{Bears, Shows, BothRequest, both_served, both_refused}
+use Rattle.proof_demands.specs.demands.Representation.{Bears, Shows, BothRequest, both_served, both_refused}
 use Rattle.proof_demands.specs.demands.Session.{Holds, Tells, singles_for, made, After, after_open, after_one, after_all, after_list}
 use Rattle.proof_demands.proofs.demands.Described.{count_described, count_is}
 use Rattle.proof_demands.proofs.demands.Sound.{opened_wf}
-use Rattle.proof_demands.proofs.demands.Minded.{opened_sane}
+use Rattle.proof_demands.proofs.demands.OpenedMemory.{opened_sane}
 use Rattle.proof_demands.proofs.demands.Named.{opened_indexed, opened_names}
 use Rattle.proof_demands.proofs.demands.Start.{start_step}
 use Rattle.proof_demands.proofs.demands.Began.{opened_bears}
@@ -157,8 +157,8 @@ module _ (p modes : ℕ) (s : List ℕ) (n : ℕ) (ok : opening_number p s n ≡
         let same : smaller (length t) 1073741824 ≡ smaller room 1073741824 = ap (λ (k : ℕ). smaller k 1073741824) g.long in
         omega (arith, lim.0, lim.1, size, is, same)
 
-    abbrev sheet : Sheet
-    sheet = record { work = v; text = lent_to len t; at = 0; len = 0 }
+    abbrev slices : Slices
+    slices = record { work = v; text = lent_to len t; at = 0; len = 0 }
 
     pub begins : Shows b e s w (take len t) (lent_to len t) 0 (X.start room L.mach)
     begins = record {
@@ -168,7 +168,7 @@ module _ (p modes : ℕ) (s : List ℕ) (n : ℕ) (ok : opening_number p s n ≡
       so_far = append-nil (take len t) ∙ g.its_text;
     }
 
-    served : (m : Sheet) (u : State) → Bears b e s w m.work 0 (X.start 0 u) → Shows b e s w (take len t) m.text m.at u → u.room ≡ room
+    served : (m : Slices) (u : State) → Bears b e s w m.work 0 (X.start 0 u) → Shows b e s w (take len t) m.text m.at u → u.room ≡ room
         → Going (len + m.at) m.work (place t len m.text) room (record { is_open = true; mach = u; asked = L.asked ++ (x ∷ []) })
     served m u be sh r =
         let total : len + length m.text ≡ smaller room 1073741824 = omega (arith, front_long, sh.room ∙ ap (λ (k : ℕ). smaller k 1073741824) r) in
@@ -200,7 +200,7 @@ module _ (p modes : ℕ) (s : List ℕ) (n : ℕ) (ok : opening_number p s n ≡
       small = g.small;
     }
 
-    pub came : (u : ℕ) {o : Out Sheet} {a : Answer State} → BothRequest b e s w (take len t) room L x o a → ((c : ℕ) → o ≡ stuck c → 0 < c) → BothReach room (came_to len u t o) a
+    pub came : (u : ℕ) {o : Out Slices} {a : Answer State} → BothRequest b e s w (take len t) room L x o a → ((c : ℕ) → o ≡ stuck c → 0 < c) → BothReach room (came_to len u t o) a
     unfolding came_to
     came d (both_served m u be sh r) k = both_reached (len + m.at) m.work (place t len m.text) _ (served m u be sh r)
     came d (both_refused zero) k = absurd (let q : 0 < 0 = k 0 refl in omega arith)
@@ -210,14 +210,14 @@ module _ (p modes : ℕ) (s : List ℕ) (n : ℕ) (ok : opening_number p s n ≡
     unfolding single gate
     single_is l = ap (λ (f : Bool). gate X T room L x f (ltb x T.count)) g.running ∙ ap (gate X T room L x true) (lt-ltb x T.count l)
 
-    pub positive : (c : ℕ) → dumped (work_machine b B) T sheet x ≡ stuck c → 0 < c
+    pub positive : (c : ℕ) → dumped (work_machine b B) T slices x ≡ stuck c → 0 < c
     positive c q =
-        let z : (12 ≤ c) × (c ≤ 18) = stuck_listed (length (lent_to len t)) (dumped (work_machine b B) T sheet x) (fair_request b B (length (lent_to len t)) sheet x (omega arith, refl)) c q in
+        let z : (12 ≤ c) × (c ≤ 18) = stuck_listed (length (lent_to len t)) (dumped (work_machine b B) T slices x) (fair_request b B (length (lent_to len t)) slices x (omega arith, refl)) c q in
         omega (arith, z.0)
 
-    pub table_now : (u : ℕ) → requested b s x len u v t ≡ came_to len u t (dumped (work_machine b B) T sheet x)
+    pub table_now : (u : ℕ) → requested b s x len u v t ≡ came_to len u t (dumped (work_machine b B) T slices x)
     unfolding requested
-    table_now u = ap (λ (K : Rules). came_to len u t (dumped (work_machine b K) (table_of K) sheet x)) g.bears.table
+    table_now u = ap (λ (K : Rules). came_to len u t (dumped (work_machine b K) (table_of K) slices x)) g.bears.table
 
     below : x < T.count → x < b.types
     unfolding btf_of
@@ -226,8 +226,8 @@ module _ (p modes : ℕ) (s : List ℕ) (n : ℕ) (ok : opening_number p s n ≡
     pub request_reach : (u : ℕ) → x < T.count → BothReach room (requested b s x len u v t) (single X T room L x)
     request_reach u l =
         subst (λ (r : Reach). BothReach room r (single X T room L x)) (sym (table_now u))
-        (subst (λ (a : Answer State). BothReach room (came_to len u t (dumped (work_machine b B) T sheet x)) a) (sym (single_is l))
-        (came u (request_alike b e s w (opened_indexed p modes s n ok) (opened_sane p modes s n ok) (names_in p modes s n) (opened_names p modes s n ok) (opened_wf p modes s n ok) (take len t) room L x sheet refl g.bears begins (below l)) positive))
+        (subst (λ (a : Answer State). BothReach room (came_to len u t (dumped (work_machine b B) T slices x)) a) (sym (single_is l))
+        (came u (request_alike b e s w (opened_indexed p modes s n ok) (opened_sane p modes s n ok) (names_in p modes s n) (opened_names p modes s n ok) (opened_wf p modes s n ok) (take len t) room L x slices refl g.bears begins (below l)) positive))
 
   -- ---- one after the other
   onward_reach : (room : ℕ) {r : Reach} {a : Answer State} (k₁ : ℕ → List ℕ → List ℕ → Reach) (k : Sess State → Answer State) → BothReach room r a

@@ -21,8 +21,8 @@ use Rattle.c_dumper_dependency_order.specs.order_state.Work.{mark_of}
 use Rattle.spec_c_dumper.specs.needs.Lists.{Ls}
 use Rattle.spec_c_dumper.specs.needs.Session.{Known, machine}
 use Rattle.proof_demands.specs.name_counts.Alike.{Alike}
-use Rattle.proof_demands.proofs.alignment_memory.Lines.{minds_same}
-use Rattle.proof_demands.specs.demands.Sheet.{Bears}
+use Rattle.proof_demands.proofs.alignment_memory.Lines.{memory_kept}
+use Rattle.proof_demands.specs.demands.Representation.{Bears}
 
 -- no word of a holder that is no word 11 is word 11 of a type
 no_list : (types f g h : ℕ) → f < 16 → f ≢ 11 → (j : ℕ) → j < types → place_of types f g h ≢ j * 16 + 11
@@ -61,5 +61,5 @@ module _ (b : TypeTable) (e : ℕ) (s w v v' : List ℕ) (long : length v' ≡ l
     marks_n = h.marks_n;
     emits_n = h.emits_n;
     fwds_n = h.fwds_n;
-    memory = minds_same (btf_of b s w) v v' (record { long = long; aligned = λ j. k (j * 16 + 15) (λ i m q. omega arith); count = k (0 * 16 + 2) (λ i m q. omega arith) }) h.memory;
+    memory = memory_kept (btf_of b s w) v v' (record { long = long; aligned = λ j. k (j * 16 + 15) (λ i m q. omega arith); count = k (0 * 16 + 2) (λ i m q. omega arith) }) h.memory;
   }

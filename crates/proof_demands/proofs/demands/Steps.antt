@@ -29,8 +29,8 @@ use Rattle.spec_c_dumper.specs.needs.Session.{Known, machine}
 use Rattle.proof_demands.specs.name_counts.Indexed.{Indexed, CountsKept}
 use Rattle.proof_demands.specs.name_counts.Alike.{Alike}
 use Rattle.proof_demands.proofs.alignment_memory.Work.{memory_put}
-use Rattle.proof_demands.proofs.alignment_memory.Lines.{minds_same}
-use Rattle.proof_demands.specs.demands.Sheet.{Bears}
+use Rattle.proof_demands.proofs.alignment_memory.Lines.{memory_kept}
+use Rattle.proof_demands.specs.demands.Representation.{Bears}
 
 module _ (b : TypeTable) (e : ℕ) (s w : List ℕ) (I : Indexed b e s w) where
   -- a word of a type that names do not use
@@ -99,7 +99,7 @@ module _ (b : TypeTable) (e : ℕ) (s w : List ℕ) (I : Indexed b e s w) where
       marks_n = length-set t.marks x k ∙ h.marks_n;
       emits_n = h.emits_n;
       fwds_n = h.fwds_n;
-      memory = minds_same (btf_of b s w) v (put_field v x 1 (code k)) (memory_put v (x * 16 + 1) (code k) (λ q. omega arith) (λ q. omega arith)) h.memory;
+      memory = memory_kept (btf_of b s w) v (put_field v x 1 (code k)) (memory_put v (x * 16 + 1) (code k) (λ q. omega arith) (λ q. omega arith)) h.memory;
     }
 
     -- emission's mark
@@ -114,7 +114,7 @@ module _ (b : TypeTable) (e : ℕ) (s w : List ℕ) (I : Indexed b e s w) where
       marks_n = h.marks_n;
       emits_n = length-set t.emits x k ∙ h.emits_n;
       fwds_n = h.fwds_n;
-      memory = minds_same (btf_of b s w) v (put_field v x 13 (code k)) (memory_put v (x * 16 + 13) (code k) (λ q. omega arith) (λ q. omega arith)) h.memory;
+      memory = memory_kept (btf_of b s w) v (put_field v x 13 (code k)) (memory_put v (x * 16 + 13) (code k) (λ q. omega arith) (λ q. omega arith)) h.memory;
     }
 
     -- the flag of a forward line
@@ -129,7 +129,7 @@ module _ (b : TypeTable) (e : ℕ) (s w : List ℕ) (I : Indexed b e s w) where
       marks_n = h.marks_n;
       emits_n = h.emits_n;
       fwds_n = length-set t.fwds x true ∙ h.fwds_n;
-      memory = minds_same (btf_of b s w) v (put_field v x 3 1) (memory_put v (x * 16 + 3) 1 (λ q. omega arith) (λ q. omega arith)) h.memory;
+      memory = memory_kept (btf_of b s w) v (put_field v x 3 1) (memory_put v (x * 16 + 3) 1 (λ q. omega arith) (λ q. omega arith)) h.memory;
     }
 
     -- one more on the order list
@@ -158,5 +158,5 @@ module _ (b : TypeTable) (e : ℕ) (s w : List ℕ) (I : Indexed b e s w) where
       marks_n = h.marks_n;
       emits_n = h.emits_n;
       fwds_n = h.fwds_n;
-      memory = minds_same (btf_of b s w) v (put_field v len 11 x) (memory_put v (len * 16 + 11) x (λ q. omega arith) (λ q. omega arith)) h.memory;
+      memory = memory_kept (btf_of b s w) v (put_field v len 11 x) (memory_put v (len * 16 + 11) x (λ q. omega arith) (λ q. omega arith)) h.memory;
     }

@@ -15,11 +15,11 @@ use Rattle.spec_session.proofs.calls.Lists.{type_single}
 use Rattle.proof_demands.specs.demands.Table.{opened_table}
 use Rattle.proof_demands.specs.demands.Session.{After}
 use Rattle.proof_demands.proofs.demands.Session.{after_holds}
-use Rattle.proof_demands.proofs.demands.Few.{few}
+use Rattle.proof_demands.proofs.demands.Counts.{few}
 use Rattle.spec_c_dumper.specs.alignment_once.Once.{members_to, paid_to}
 use Rattle.spec_c_dumper.proofs.alignment_once.Counted.{paid_most}
 use Rattle.btf_layout.specs.remembered.Words.{work_keep}
-use Rattle.proof_demands.specs.alignment_memory.Work.{Minds}
+use Rattle.proof_demands.specs.alignment_memory.Work.{SoundMemory}
 use Rattle.proof_demands.proofs.visits.Record.{after_says}
 
 module _ (p modes : ℕ) (s : List ℕ) (n : ℕ) (ok : opening_number p s n ≡ 0) (c : Call) (rs : List Req) (a : After p modes s n c rs) (o : c.session.«open» ≡ true) where
@@ -27,8 +27,8 @@ module _ (p modes : ℕ) (s : List ℕ) (n : ℕ) (ok : opening_number p s n ≡
   B = opened_table p modes s n
 
   -- what the calls have remembered of alignments is what get_align_of says
-  pub call_minds : Minds B c.work
-  call_minds = let h = after_holds p modes s n ok a in (h.bears (sym h.is_open ∙ o)).memory
+  pub call_memory : SoundMemory B c.work
+  call_memory = let h = after_holds p modes s n ok a in (h.bears (sym h.is_open ∙ o)).memory
 
   abbrev most : ℕ
   most = B.type_cnt + members_to B B.type_cnt
@@ -43,7 +43,7 @@ module _ (p modes : ℕ) (s : List ℕ) (n : ℕ) (ok : opening_number p s n ≡
       let m : paid ≤ most = paid_most B ((work_keep B.type_cnt B).recall c.work) B.type_cnt in
       let f : most < 4294967296 = few p modes s n ok in
       let z : paid % 4294967296 ≡ paid = omega arith in
-      after_says p modes s n ok a o ∙ ap (λ (k : ℕ). k % 4294967296) call_minds.count ∙ z
+      after_says p modes s n ok a o ∙ ap (λ (k : ℕ). k % 4294967296) call_memory.count ∙ z
 
   -- "at most types plus members"
   pub call_visits : c.session.visits ≤ most

@@ -9,11 +9,11 @@ use Rattle.spec_opening.specs.Causes.{opening_number}
 use Rattle.spec_c_dumper.specs.needs.Session.{no_names, opened_by, dumped}
 use Rattle.proof_demands.specs.demands.Table.{opened_table, names_in, opened_in}
 use Rattle.proof_demands.proofs.demands.Claims.{opening_gives}
-use Rattle.proof_demands.proofs.demands.Minded.{ends}
+use Rattle.proof_demands.proofs.demands.OpenedMemory.{ends}
 use Rattle.spec_c_dumper.specs.alignment_once.Once.{table_keep, blank, members_to}
-use Rattle.spec_c_dumper.specs.alignment_once.Writers.{after_once, dumped_once, minded, minded_asks, no_visits}
+use Rattle.spec_c_dumper.specs.alignment_once.Writers.{after_once, dumped_once, remembering_names, remembering_asks, no_visits}
 use Rattle.spec_c_dumper.proofs.alignment_once.Tables.{Any, Each, table_lawful}
-use Rattle.spec_c_dumper.proofs.alignment_once.Session.{minded_session, session_visits}
+use Rattle.spec_c_dumper.proofs.alignment_once.Session.{remembering_session, session_visits}
 
 module _ (pointer modes : ℕ) (s : List ℕ) (n : ℕ) (ok : opening_number pointer s n ≡ 0) (rs : List Req) where
   abbrev B : Rules
@@ -23,9 +23,9 @@ module _ (pointer modes : ℕ) (s : List ℕ) (n : ℕ) (ok : opening_number poi
   N = names_in pointer modes s n
 
   -- the numbers, lengths and text of the rules with the names of the session, for every list of requests
-  pub opened_session : dumped_once (minded_asks (table_keep B.type_cnt) B) (minded N) B [] rs (opened_by (minded N) B (no_visits (no_names B) blank)) ≡ dumped N B [] rs (opened_in pointer modes s n)
-  opened_session = minded_session (table_keep B.type_cnt) N B Any Each (table_lawful B.type_cnt) (λ id t q l. tt) (opening_gives pointer modes s n ok).well_formed (ends _ s _) (no_names B) blank tt (λ id. refl) rs
+  pub opened_session : dumped_once (remembering_asks (table_keep B.type_cnt) B) (remembering_names N) B [] rs (opened_by (remembering_names N) B (no_visits (no_names B) blank)) ≡ dumped N B [] rs (opened_in pointer modes s n)
+  opened_session = remembering_session (table_keep B.type_cnt) N B Any Each (table_lawful B.type_cnt) (λ id t q l. tt) (opening_gives pointer modes s n ok).well_formed (ends _ s _) (no_names B) blank tt (λ id. refl) rs
 
   -- "at most types plus members"
-  pub opened_visits : (after_once (minded_asks (table_keep B.type_cnt) B) (minded N) B rs (opened_by (minded N) B (no_visits (no_names B) blank))).mach.known.names.visits ≤ B.type_cnt + members_to B B.type_cnt
+  pub opened_visits : (after_once (remembering_asks (table_keep B.type_cnt) B) (remembering_names N) B rs (opened_by (remembering_names N) B (no_visits (no_names B) blank))).mach.known.names.visits ≤ B.type_cnt + members_to B B.type_cnt
   opened_visits = session_visits (table_keep B.type_cnt) N B Any Each (table_lawful B.type_cnt) (λ id t q l. tt) (opening_gives pointer modes s n ok).well_formed (ends _ s _) (no_names B) blank tt (λ id. refl) rs

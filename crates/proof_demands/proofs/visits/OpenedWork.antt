@@ -18,7 +18,7 @@ use Rattle.proof_demands.specs.name_counts.Passed.{passed}
 use Rattle.proof_demands.specs.name_counts.Indexed.{lists_in}
 use Rattle.proof_demands.specs.demands.Table.{header_of, opened_table, names_in, opened_in}
 use Rattle.proof_demands.proofs.demands.Claims.{opening_gives}
-use Rattle.proof_demands.proofs.demands.Minded.{opened_sane, opened_minds}
+use Rattle.proof_demands.proofs.demands.OpenedMemory.{opened_sane, opened_memory}
 use Rattle.spec_c_dumper.specs.alignment_once.Once.{members_to}
 use Rattle.spec_c_dumper.specs.alignment_once.Writers.{dumped_once, after_once}
 use Rattle.btf_layout.specs.asked.Asked.{work_asks}
@@ -40,7 +40,7 @@ module _ (p modes : ℕ) (s : List ℕ) (n : ℕ) (ok : opening_number p s n ≡
 
   -- nothing is remembered yet
   begins : InWork b Z.some B Z.small Z.wf Z.ends Z.few w w
-  begins = let m = opened_minds p modes s n ok in (record { long = refl; words = λ i n m. refl }, m.right, (m.roomy, m.count))
+  begins = let m = opened_memory p modes s n ok in (record { long = refl; words = λ i n m. refl }, m.right, (m.roomy, m.count))
 
   -- the same numbers, lengths and text as the rules have with the names of the session, for every list of requests
   pub opened_work_session : (rs : List Req) → dumped_once (work_asks B.type_cnt B) (work_naming b) B [] rs (opened_by (work_naming b) B w) ≡ dumped (names_in p modes s n) B [] rs (opened_in p modes s n)

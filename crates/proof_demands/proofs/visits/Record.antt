@@ -19,7 +19,7 @@ use Rattle.spec_session.proofs.calls.Laws.{opens_sound}
 use Rattle.spec_session.proofs.calls.Claims.{type_settles, type_not_below, type_not_current, types_settle, types_not_current}
 use Rattle.spec_session.proofs.calls.Lists.{counted_goes, counted_stops}
 use Rattle.proof_demands.specs.demands.Session.{After, after_open, after_one, after_all, after_list}
-use Rattle.proof_demands.proofs.demands.Minded.{opened_sane, no_visits}
+use Rattle.proof_demands.proofs.demands.OpenedMemory.{opened_sane, no_visits}
 
 -- of a session record, open or closed, and the work after a call
 abbrev pub Says : Session → List ℕ → Type 0

@@ -14,7 +14,7 @@ pub record Agree (w u : List ℕ) : Type 0 where
   pub words : (i : ℕ) → (i % 16 ≡ 15 → ⊥) → (i ≡ 2 → ⊥) → get_word w i ≡ get_word u i
 
 -- the memory in the work is right, there is a word for each type, and word 2 of void has the visits that it took
-pub record Minds (B : Rules) (w : List ℕ) : Type 0 where
+pub record SoundMemory (B : Rules) (w : List ℕ) : Type 0 where
   pub right : Right (work_keep B.type_cnt B) B w
   pub roomy : B.type_cnt * 16 ≤ length w / 4
   pub count : get_field w 0 2 ≡ paid_to B ((work_keep B.type_cnt B).recall w) B.type_cnt

@@ -11,7 +11,7 @@ use Rattle.spec_c_dumper.specs.needs.Session.{no_names, opened_by}
 use Rattle.proof_demands.specs.demands.Table.{opened_table, names_in}
 use Rattle.proof_demands.specs.demands.Session.{After}
 use Rattle.spec_c_dumper.specs.alignment_once.Once.{Table, table_keep, blank, members_to}
-use Rattle.spec_c_dumper.specs.alignment_once.Writers.{after_once, Minded, minded, minded_asks, no_visits}
+use Rattle.spec_c_dumper.specs.alignment_once.Writers.{after_once, Remembering, remembering_names, remembering_asks, no_visits}
 use Rattle.btf_layout.specs.remembered.Words.{work_keep}
 
 -- pointer size, mode, section and length of the work, as at opening
@@ -23,13 +23,14 @@ module _ (pointer modes : ℕ) (s : List ℕ) (n : ℕ) where
   N = names_in pointer modes s n
 
   -- Names, memory and visits before the first request: no name is given, nothing is remembered, no visit is counted.
-  abbrev pub defined_first : Minded Names Table
+  abbrev pub defined_first : Remembering Names Table
   defined_first = no_visits (no_names B) blank
 
-  -- and after the requests, in a session of the definition of the remembering way (alignments/specs)
-  abbrev pub defined_after : List Req → Minded Names Table
+  -- and after the requests, in a session of the definition of the remembering way (crates/spec_c_dumper/specs/alignment_once)
+  abbrev pub defined_after : List Req → Remembering Names Table
   defined_after rs =
-      (after_once (minded_asks (table_keep B.type_cnt) B) (minded N) B rs (opened_by (minded N) B defined_first)).mach.known.names
+      (after_once (remembering_asks (table_keep B.type_cnt) B) (remembering_names N) B rs
+      (opened_by (remembering_names N) B defined_first)).mach.known.names
 
   -- c: the last call, after the requests rs. The record's visits, of an open session and of one that a refusal closed; and while it is open
   -- the work remembers what the definition does of each type.

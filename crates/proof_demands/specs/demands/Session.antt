@@ -13,7 +13,7 @@ use Rattle.spec_session.specs.calls.Lists.{list_call}
 use Rattle.spec_c_dumper.specs.needs.Lists.{Ls}
 use Rattle.spec_c_dumper.specs.needs.Session.{Known, text_of, machine}
 use Rattle.proof_demands.specs.demands.Table.{header_of, opened_table}
-use Rattle.proof_demands.specs.demands.Sheet.{Bears}
+use Rattle.proof_demands.specs.demands.Representation.{Bears}
 
 -- the first n ids as single requests, on a text slice of so many bytes
 unfoldable pub singles_for : ℕ → ℕ → List ℕ → List Req

@@ -41,7 +41,7 @@ use Rattle.proof_demands.proofs.name_counts.Lists.{lists_are, number_named}
 use Rattle.proof_demands.specs.demands.Table.{header_of, opened_table}
 use Rattle.proof_demands.proofs.demands.Named.{opened_indexed}
 use Rattle.spec_c_dumper.specs.names_apart.Apart.{table_names}
-use Rattle.proof_names_apart.proofs.few_names.Few.{values_are}
+use Rattle.proof_names_apart.proofs.name_counts.Counts.{values_are}
 use Rattle.proof_names_apart.specs.passed_numbers.Passed.{Right}
 use Rattle.btf_open_names.specs.numbers.Lists.{Distinct}
 use Rattle.proof_names_apart.specs.taken_lists.Listed.{numbers_on, base_of, number_of}

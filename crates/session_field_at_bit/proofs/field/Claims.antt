@@ -24,7 +24,7 @@ use Rattle.spec_session.specs.declared.session.Session.{Session}
 use Rattle.spec_session.specs.session.Turns.{is_current, table_for}
 use Rattle.session_field_at_bit.specs.step.Path.{Shape, plain, through, array, composite, shape_of, is_composite, behind, Step, stay, enter, field, covers, tried, placed, step_in, full, onward, path_from, some_entry, field_path}
 use Rattle.session_field_at_bit.specs.field.Calls.{Found, found_of, put_words, lent_path, field_call}
-use Rattle.session_field_at_bit.specs.field.Leads.{Uncovered, none, next, Leads}
+use Rattle.session_field_at_bit.specs.field.PathFrom.{Uncovered, none, next, PathFrom}
 use Rattle.session_field_at_bit.proofs.field.Sound.{got_same, then_got, Tried, entered_or, tried_is, is_covered, by_composite, is_composite_lem, field_plain, field_composite, first_step, sound}
 
 -- ---- the refusals
@@ -254,7 +254,7 @@ module _ (path : List ℕ) where
 pub record Written (B : Btf) (id bit : ℕ) (before after : List ℕ) (n : ℕ) : Type 0 where
   pub path : List ℕ
   pub found : field_path B id bit ≡ got path
-  pub leads : Leads B id bit path
+  pub is_path : PathFrom B id bit path
   pub long : n ≡ length path
   pub some : 0 < n
   pub most : n ≤ 512
@@ -272,13 +272,13 @@ module _ (B : Btf) (id bit : ℕ) (path : List ℕ) where
       (λ l. let f : lent_path path (got p) ≡ found_of (Refused 17 0) path = rw (lt-leb (length p) (length path / 4) l, lent_path) in let y : ◌≡◌ {A = ℕ} 17 0 = sym (ap (λ (x : Found). number_of x.answer) f) ∙ h in absurd (omega arith))
       (λ l.
       let f : lent_path path (got p) ≡ found_of (Accepted (length p)) (put_words path 0 p) = rw (le-leb (length p) (length path / 4) l, lent_path) in
-      let s : Leads B id bit p × ((0 < length p) × (length p ≤ 512)) = sound B id bit p e in
+      let s : PathFrom B id bit p × ((0 < length p) × (length p ≤ 512)) = sound B id bit p e in
       let z : 0 + length p ≤ length path / 4 = omega arith in
       let w : (0 + length p) * 4 ≤ length p * 4 = omega arith in
       subst (λ (x : Found). Written B id bit path x.path (value_of x.answer)) (sym f) (record {
         path = p;
         found = e;
-        leads = s.0;
+        is_path = s.0;
         long = refl;
         some = s.1.0;
         most = s.1.1;

@@ -1,4 +1,4 @@
--- A path that the walk finds leads to the innermost member that covers the bit, as the request has it (specs/Leads.antt), and is not
+-- A path that the walk finds leads to the innermost member that covers the bit, as the request has it (specs/field/PathFrom.antt), and is not
 -- longer than it may be; 21 means what it says. Assumes nothing.
 use Prim.Native.Nat.{ℕ, zero, suc, ◌+◌, ◌-◌, ◌*◌, ◌/◌, ◌%◌, ◌<◌, ◌≤◌}
 use mathlib.Core.Path.{◌≡◌, refl, ap, ◌∙◌, sym, subst}
@@ -17,7 +17,7 @@ use Rattle.spec_c_dumper.proofs.rules.Asking.{no_got, checked_got}
 use Rattle.spec_c_dumper.proofs.alignment_once.Right.{same_or}
 use Rattle.spec_c_dumper.proofs.rules.Deeper.{size_one_more}
 use Rattle.session_field_at_bit.specs.step.Path.{Shape, plain, through, array, composite, shape_of, is_composite, passed, behind, Step, stay, enter, field, covers, entered, tried, placed, step_in, full, onward, path_from, some_entry, field_path}
-use Rattle.session_field_at_bit.specs.field.Leads.{Covers, by_size, by_field, First, here, later, Uncovered, none, next, Leads, passes, place, member, bit_field, ends, gap}
+use Rattle.session_field_at_bit.specs.field.PathFrom.{Covers, by_size, by_field, First, here, later, Uncovered, none, next, PathFrom, passes, place, member, bit_field, ends, gap}
 
 -- ---- answers
 pub got_same : {A : Type 0} → (a b : A) → got a ≡ got b → a ≡ b
@@ -67,7 +67,7 @@ data Reaches (B : Btf) : ℕ → ℕ → Type 0 where
   arrived : (id : ℕ) → Reaches B id id
   goes : (id t x : ℕ) → shape_of (B.type_by_id id) ≡ through t → Reaches B t x → Reaches B id x
 
-lift : (B : Btf) (id x bit : ℕ) (p : List ℕ) → Reaches B id x → Leads B x bit p → Leads B id bit p
+lift : (B : Btf) (id x bit : ℕ) (p : List ℕ) → Reaches B id x → PathFrom B x bit p → PathFrom B id bit p
 lift B _ _ bit p (arrived id) l = l
 lift B _ _ bit p (goes id t x e r) l = passes id t bit p e (lift B t x bit p r l)
 
@@ -272,41 +272,41 @@ module _ (B : Btf) (bit : ℕ) where
 
 -- ---- one step of the walk
 record Inside (B : Btf) (x bit k t r : ℕ) : Type 0 where
-  on : (p : List ℕ) → Leads B t r p → Leads B x bit (k ∷ p)
+  on : (p : List ℕ) → PathFrom B t r p → PathFrom B x bit (k ∷ p)
   size : ℕ
   sized : get_size_of 512 B t ≡ got size
   low : r < size * 8
 
 module _ (B : Btf) (x bit : ℕ) where
-  StepLeads : Step → Type 0
-  StepLeads stay = Leads B x bit []
-  StepLeads (enter k t r) = Inside B x bit k t r
-  StepLeads (field k) = Leads B x bit (k ∷ [])
+  StepPath : Step → Type 0
+  StepPath stay = PathFrom B x bit []
+  StepPath (enter k t r) = Inside B x bit k t r
+  StepPath (field k) = PathFrom B x bit (k ∷ [])
 
   module _ (ms : List Member) (s : shape_of (B.type_by_id x) ≡ composite ms) where
-    tried_leads : (st : Step) → Tried B bit 0 ms st → StepLeads st
-    unfolding StepLeads Tried
-    tried_leads stay u = gap x bit ms s u
-    tried_leads (enter i t r) v =
+    tried_path : (st : Step) → Tried B bit 0 ms st → StepPath st
+    unfolding StepPath Tried
+    tried_path stay u = gap x bit ms s u
+    tried_path (enter i t r) v =
         let c : i ≡ 0 + v.at = v.counted in
         let d : v.at ≡ i = omega arith in
         let o : r ≡ bit - v.one.bit_offset = v.rest in record {
-          on = λ p l. member x i bit ms v.one p s (subst (λ (j : ℕ). First B bit v.one ms j) d v.first) v.plainly (subst (λ (y : ℕ). Leads B v.one.type_id y p) v.rest (subst (λ (y : ℕ). Leads B y r p) v.typed l));
+          on = λ p l. member x i bit ms v.one p s (subst (λ (j : ℕ). First B bit v.one ms j) d v.first) v.plainly (subst (λ (y : ℕ). PathFrom B v.one.type_id y p) v.rest (subst (λ (y : ℕ). PathFrom B y r p) v.typed l));
           size = v.size;
           sized = ap (get_size_of 512 B) v.typed ∙ v.sized;
           low = omega (arith, v.low, v.high);
         }
-    tried_leads (field i) v =
+    tried_path (field i) v =
         let c : i ≡ 0 + v.at = v.counted in
         let d : v.at ≡ i = omega arith in
         bit_field x i bit ms v.one s (subst (λ (j : ℕ). First B bit v.one ms j) d v.first) v.bits
 
-    composite_step : (st : Step) → tried B bit 0 ms ≡ got st → StepLeads st
-    composite_step st e = tried_leads st (tried_is B bit ms 0 st e)
+    composite_step : (st : Step) → tried B bit 0 ms ≡ got st → StepPath st
+    composite_step st e = tried_path st (tried_is B bit ms 0 st e)
 
   module _ (t k z : ℕ) (q : B.type_by_id x ≡ Array t k) (sz : get_size_of 512 B x ≡ got z) (l : bit < z * 8) where
-    place_step : (s : ℕ) → k * s ≡ z → get_size_of 512 B t ≡ got s → (st : Step) → placed t s bit ≡ st → StepLeads st
-    unfolding placed StepLeads
+    place_step : (s : ℕ) → k * s ≡ z → get_size_of 512 B t ≡ got s → (st : Step) → placed t s bit ≡ st → StepPath st
+    unfolding placed StepPath
     place_step s ks big st v =
         same_or s 0
         (λ o. let y : k * s ≡ k * 0 = ap (λ (n : ℕ). k * n) o in let y' : k * 0 ≡ 0 = omega arith in absurd (omega arith))
@@ -317,14 +317,14 @@ module _ (B : Btf) (x bit : ℕ) where
         let h : bit < k * (s * 8) = subst (λ (y : ℕ). bit < y) w l in
         let c : bit / (s * 8) < k = (div-lt_iff_lt-mul pos).1 h in
         let y : placed t s bit ≡ enter (bit / (s * 8)) t (bit % (s * 8)) = rw (ne_eqb s 0 n, placed) in
-        subst StepLeads (sym y ∙ v) (record {
+        subst StepPath (sym y ∙ v) (record {
           on = λ p r. place x t k s (bit / (s * 8)) bit (bit % (s * 8)) p q big c (sym (div-add-mod' bit (s * 8))) m r;
           size = s;
           sized = big;
           low = m;
         }))
 
-    array_step : (st : Step) → ask_then (get_size_of 512 B t) (λ size. got (placed t size bit)) ≡ got st → StepLeads st
+    array_step : (st : Step) → ask_then (get_size_of 512 B t) (λ size. got (placed t size bit)) ≡ got st → StepPath st
     unfolding get_size_of size_of ask_then
     array_step st e =
         let f : ask_then (get_size_of 511 B t) (λ s. checked (k * s)) ≡ got z = sym (ap (size_of B (get_size_of 511 B)) q) ∙ sz in
@@ -333,12 +333,12 @@ module _ (B : Btf) (x bit : ℕ) where
         let u : got (placed t s bit) ≡ got st = sym (ap (λ (y : Ask ℕ). ask_then y (λ size. got (placed t size bit))) big) ∙ e in
         place_step s (checked_got (k * s) z b) big st (got_same (placed t s bit) st u))
 
-  step_leads : (z : ℕ) (S : Shape) → get_size_of 512 B x ≡ got z → bit < z * 8 → shape_of (B.type_by_id x) ≡ S → ((t : ℕ) → S ≡ through t → ⊥) → (st : Step) → step_in B bit S ≡ got st → StepLeads st
-  unfolding step_in shape_of StepLeads
-  step_leads z S sz l s stops st e =
+  step_path : (z : ℕ) (S : Shape) → get_size_of 512 B x ≡ got z → bit < z * 8 → shape_of (B.type_by_id x) ≡ S → ((t : ℕ) → S ≡ through t → ⊥) → (st : Step) → step_in B bit S ≡ got st → StepPath st
+  unfolding step_in shape_of StepPath
+  step_path z S sz l s stops st e =
       let e' : step_in B bit (shape_of (B.type_by_id x)) ≡ got st = ap (step_in B bit) s ∙ e in
-      by_shape B (λ T. B.type_by_id x ≡ T → StepLeads st)
-      (λ T o q. let y : got stay ≡ got st = sym (ap (step_in B bit) (ap shape_of q ∙ o)) ∙ e' in subst StepLeads (got_same stay st y) (ends x bit (ap shape_of q ∙ o)))
+      by_shape B (λ T. B.type_by_id x ≡ T → StepPath st)
+      (λ T o q. let y : got stay ≡ got st = sym (ap (step_in B bit) (ap shape_of q ∙ o)) ∙ e' in subst StepPath (got_same stay st y) (ends x bit (ap shape_of q ∙ o)))
       (λ T t o f q. absurd (stops t (sym s ∙ ap shape_of q ∙ o)))
       (λ t k q. array_step t k z q sz l st (sym (ap (λ (T : BtfType). step_in B bit (shape_of T)) q) ∙ e'))
       (λ b n sz ms q. composite_step ms (ap shape_of q) st (sym (ap (λ (T : BtfType). step_in B bit (shape_of T)) q) ∙ e'))
@@ -348,32 +348,32 @@ module _ (B : Btf) (x bit : ℕ) where
 -- ---- the walk
 module _ (B : Btf) where
   abbrev Finds : ℕ → Type 0
-  Finds left = (id bit z : ℕ) (p : List ℕ) → get_size_of 512 B id ≡ got z → bit < z * 8 → path_from left B id bit ≡ got p → Leads B id bit p
+  Finds left = (id bit z : ℕ) (p : List ℕ) → get_size_of 512 B id ≡ got z → bit < z * 8 → path_from left B id bit ≡ got p → PathFrom B id bit p
 
-  last_leads : (x bit : ℕ) (p : List ℕ) (st : Step) → StepLeads B x bit st → full st ≡ got p → Leads B x bit p
-  unfolding full StepLeads
-  last_leads x bit p stay s e = subst (Leads B x bit) (got_same [] p e) s
-  last_leads x bit p (enter k t r) s e = absurd (no_got 12 p e)
-  last_leads x bit p (field k) s e = absurd (no_got 12 p e)
+  last_path : (x bit : ℕ) (p : List ℕ) (st : Step) → StepPath B x bit st → full st ≡ got p → PathFrom B x bit p
+  unfolding full StepPath
+  last_path x bit p stay s e = subst (PathFrom B x bit) (got_same [] p e) s
+  last_path x bit p (enter k t r) s e = absurd (no_got 12 p e)
+  last_path x bit p (field k) s e = absurd (no_got 12 p e)
 
-  onward_leads : (left : ℕ) → Finds left → (x bit : ℕ) (p : List ℕ) (st : Step) → StepLeads B x bit st → onward (path_from left B) st ≡ got p → Leads B x bit p
-  unfolding onward StepLeads
-  onward_leads left f x bit p stay s e = subst (Leads B x bit) (got_same [] p e) s
-  onward_leads left f x bit p (enter k t r) s e =
+  onward_path : (left : ℕ) → Finds left → (x bit : ℕ) (p : List ℕ) (st : Step) → StepPath B x bit st → onward (path_from left B) st ≡ got p → PathFrom B x bit p
+  unfolding onward StepPath
+  onward_path left f x bit p stay s e = subst (PathFrom B x bit) (got_same [] p e) s
+  onward_path left f x bit p (enter k t r) s e =
       then_got (path_from left B t r) (λ p. got (k ∷ p)) p e (λ p' a b.
-      subst (Leads B x bit) (got_same (k ∷ p') p b) (s.on p' (f t r s.size p' s.sized s.low a)))
-  onward_leads left f x bit p (field k) s e = subst (Leads B x bit) (got_same (k ∷ []) p e) s
+      subst (PathFrom B x bit) (got_same (k ∷ p') p b) (s.on p' (f t r s.size p' s.sized s.low a)))
+  onward_path left f x bit p (field k) s e = subst (PathFrom B x bit) (got_same (k ∷ []) p e) s
 
   finds : (left : ℕ) → Finds left
   unfolding path_from
   finds zero id bit z p sz l e =
       let h : Behind B id z (behind 512 B id) = behind_is B 512 id z (omega arith) sz in
       then_got (step_in B bit (behind 512 B id)) full p e (λ st a b.
-      lift B id h.type bit p h.reached (last_leads h.type bit p st (step_leads B h.type bit z (behind 512 B id) h.size l h.shape h.stops st a) b))
+      lift B id h.type bit p h.reached (last_path h.type bit p st (step_path B h.type bit z (behind 512 B id) h.size l h.shape h.stops st a) b))
   finds (suc left) id bit z p sz l e =
       let h : Behind B id z (behind 512 B id) = behind_is B 512 id z (omega arith) sz in
       then_got (step_in B bit (behind 512 B id)) (onward (path_from left B)) p e (λ st a b.
-      lift B id h.type bit p h.reached (onward_leads left (finds left) h.type bit p st (step_leads B h.type bit z (behind 512 B id) h.size l h.shape h.stops st a) b))
+      lift B id h.type bit p h.reached (onward_path left (finds left) h.type bit p st (step_path B h.type bit z (behind 512 B id) h.size l h.shape h.stops st a) b))
 
   -- at most so many entries
   full_bound : (st : Step) (p : List ℕ) → full st ≡ got p → length p ≤ 0
@@ -412,11 +412,11 @@ module _ (B : Btf) (id bit : ℕ) where
     unfolding behind passed step_in
     first_step = ap (λ (S : Shape). step_in B bit (passed (behind 511 B) S)) s
 
-    path_leads : (p : List ℕ) → path_from 512 B id bit ≡ got p → Leads B id bit p
+    path_there : (p : List ℕ) → path_from 512 B id bit ≡ got p → PathFrom B id bit p
     unfolding path_from
-    path_leads p e =
+    path_there p e =
         then_got (step_in B bit (behind 512 B id)) (onward (path_from 511 B)) p e (λ st a b.
-        onward_leads B 511 (finds B 511) id bit p st (composite_step B id bit ms s st (sym first_step ∙ a)) b)
+        onward_path B 511 (finds B 511) id bit p st (composite_step B id bit ms s st (sym first_step ∙ a)) b)
 
   some_entry_lem : (p p' : List ℕ) → some_entry p ≡ got p' → (p ≡ p') × (0 < length p)
   unfolding some_entry
@@ -438,7 +438,7 @@ module _ (B : Btf) (id bit : ℕ) where
   is_composite_lem ms s = ap is_composite s
 
   -- "the path of members and array places [..] to the innermost plain member or bit field that covers it"; it has an entry, and at most 512
-  pub sound : (p : List ℕ) → field_path B id bit ≡ got p → Leads B id bit p × ((0 < length p) × (length p ≤ 512))
+  pub sound : (p : List ℕ) → field_path B id bit ≡ got p → PathFrom B id bit p × ((0 < length p) × (length p ≤ 512))
   sound p e =
       by_composite
       (λ h. absurd (no_got 21 p (sym (field_plain h) ∙ e)))
@@ -447,4 +447,4 @@ module _ (B : Btf) (id bit : ℕ) where
       let c : (p' ≡ p) × (0 < length p') = some_entry_lem p' p b in
       let m : length p' ≡ length p = ap length c.0 in
       let n : length p' ≤ 512 = path_bound B 512 id bit p' a in
-      (subst (Leads B id bit) c.0 (path_leads ms s p' a), (omega (arith, c.1), omega arith))))
+      (subst (PathFrom B id bit) c.0 (path_there ms s p' a), (omega (arith, c.1), omega arith))))

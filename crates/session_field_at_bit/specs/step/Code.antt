@@ -44,18 +44,18 @@ member_step m k end bit =
     ]
 
 -- the length of a path or a refusal, and the lent path
-pub record Led : Type 0 where
+pub record PathTold : Type 0 where
   pub answer : Ask ℕ
   pub path : List ℕ
 
-unfoldable pub led_to : Ask ℕ → List ℕ → Led
-led_to a p = record { answer = a; path = p }
+unfoldable pub path_told : Ask ℕ → List ℕ → PathTold
+path_told a p = record { answer = a; path = p }
 
 -- entry n of a lent path, where a path of this length has room
 unfoldable pub entry_put : List ℕ → ℕ → ℕ → ℕ → List ℕ
 entry_put path n k len = elim (leb len (length path / 4)) [ true ↦ put_word path n k | false ↦ path ]
 
 -- entry n before the rest, once the length of the whole is known
-unfoldable pub entry_before : List ℕ → ℕ → ℕ → Ask ℕ → Led
-entry_before path n k (got len) = led_to (got len) (entry_put path n k len)
-entry_before path n k (no c) = led_to (no c) path
+unfoldable pub entry_before : List ℕ → ℕ → ℕ → Ask ℕ → PathTold
+entry_before path n k (got len) = path_told (got len) (entry_put path n k len)
+entry_before path n k (no c) = path_told (no c) path

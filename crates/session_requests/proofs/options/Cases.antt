@@ -12,7 +12,7 @@ use Rattle.spec_session.specs.session.Answers.{answer_is, number_of, answer_of}
 use Rattle.spec_session.specs.session.Turns.{Call, call_of, is_current, table_for, Reach, reached, refused_by, visits_in}
 use Rattle.spec_session.specs.calls.Calls.{requested, onward, requested_from, type_call, types_call}
 use Rattle.spec_session.specs.calls.Lists.{then_next, list_from, list_call}
-use Rattle.spec_session.specs.origin_calls.Bytes.{Reached as Noted, requested_noted, onward_noted, requested_from_noted, CauseCall, settled_noted, type_causes, types_causes}
+use Rattle.spec_session.specs.origin_calls.Bytes.{Reached as Traced, requested_traced, onward_traced, requested_from_traced, CauseCall, settled_traced, type_causes, types_causes}
 use Rattle.spec_session.specs.metered.Within.{Within as Counted, requested_within, onward_within, requested_from_within, CallWithin, settled_within, type_call_within, types_call_within}
 use Rattle.spec_session.specs.metered.Lists.{counted_within, list_from_within, list_call_within}
 use Rattle.spec_session.specs.origin_calls.Several.{front, go_on, list_from_causes, list_causes_call}
@@ -23,8 +23,8 @@ use Rattle.session_requests.specs.options.Lists.{front_with, go_on_with, list_fr
 use Rattle.session_requests.proofs.request.Laws.{with_lists, with_none, with_ceiling}
 use Rattle.session_requests.proofs.requests.Laws.{made}
 use Rattle.c_dumper_emit.proofs.dump_type.Kept.{none_before}
-use Rattle.c_dumper_dependency_order.specs.declared.leaders.Lead.{Lead}
-use Rattle.c_dumper_dependency_order.specs.leaders.Leads.{lead_words}
+use Rattle.c_dumper_dependency_order.specs.declared.leaders.Leader.{Leader}
+use Rattle.c_dumper_dependency_order.specs.leaders.Leaders.{leader_words}
 use Rattle.c_dumper_dependency_order.proofs.leaders.Laws.{words_length}
 
 -- ---- what they come to, without what there is none of
@@ -34,8 +34,8 @@ stage_only q es k = record { reach = q; entries = es; made = k }
 abbrev stage_within : Counted → List Entry → Stage
 stage_within a es = record { reach = a.reach; entries = es; made = a.made }
 
-abbrev stage_noted : Noted → ℕ → Stage
-stage_noted a k = record { reach = a.reach; entries = a.entries; made = k }
+abbrev stage_traced : Traced → ℕ → Stage
+stage_traced a k = record { reach = a.reach; entries = a.entries; made = k }
 
 -- ---- all ids
 module _ (more : ℕ → Bool) (b : TypeTable) (s : List ℕ) where
@@ -66,19 +66,19 @@ module _ (more : ℕ → Bool) (b : TypeTable) (s : List ℕ) where
       ∙ onward_under c (requested_from_with (Within c) more b s n (suc id)) (requested_from_within c b s n (suc id)) es (requested_within c b s id len (visits_in w) w t k).made
       (λ len' w' t'. from_under c n (suc id) es len' w' t' (requested_within c b s id len (visits_in w) w t k).made) (requested_within c b s id len (visits_in w) w t k).reach
 
-  onward_listing : (F : List Entry → ℕ → List ℕ → List ℕ → ℕ → Stage) (G : List Entry → ℕ → List ℕ → List ℕ → Noted) (es : List Entry) (k : ℕ) → ((len : ℕ) (w t : List ℕ) → F es len w t k ≡ stage_noted (G es len w t) k)
-      → (q : Reach) → onward_with Listed more b s (stage_only q es k) F ≡ stage_noted (onward_noted more b s (record { reach = q; entries = es }) G) k
-  unfolding onward_with onward_noted
+  onward_listing : (F : List Entry → ℕ → List ℕ → List ℕ → ℕ → Stage) (G : List Entry → ℕ → List ℕ → List ℕ → Traced) (es : List Entry) (k : ℕ) → ((len : ℕ) (w t : List ℕ) → F es len w t k ≡ stage_traced (G es len w t) k)
+      → (q : Reach) → onward_with Listed more b s (stage_only q es k) F ≡ stage_traced (onward_traced more b s (record { reach = q; entries = es }) G) k
+  unfolding onward_with onward_traced
   onward_listing F G es k h (reached len w t) = h len w t
   onward_listing F G es k h (refused_by d len v t) = refl
 
-  from_listing : (n id : ℕ) (es : List Entry) (len : ℕ) (w t : List ℕ) (k : ℕ) → requested_from_with Listed more b s n id es len w t k ≡ stage_noted (requested_from_noted more b s n id es len w t) k
-  unfolding requested_from_with requested_from_noted
+  from_listing : (n id : ℕ) (es : List Entry) (len : ℕ) (w t : List ℕ) (k : ℕ) → requested_from_with Listed more b s n id es len w t k ≡ stage_traced (requested_from_traced more b s n id es len w t) k
+  unfolding requested_from_with requested_from_traced
   from_listing zero id es len w t k = refl
   from_listing (suc n) id es len w t k =
       ap (λ (r : Stage). onward_with Listed more b s r (requested_from_with Listed more b s n (suc id))) (with_lists Listed more b s id es len (visits_in w) w t k refl refl)
-      ∙ onward_listing (requested_from_with Listed more b s n (suc id)) (requested_from_noted more b s n (suc id)) (requested_noted more b s id es len (visits_in w) w t).entries k
-      (λ len' w' t'. from_listing n (suc id) (requested_noted more b s id es len (visits_in w) w t).entries len' w' t' k) (requested_noted more b s id es len (visits_in w) w t).reach
+      ∙ onward_listing (requested_from_with Listed more b s n (suc id)) (requested_from_traced more b s n (suc id)) (requested_traced more b s id es len (visits_in w) w t).entries k
+      (λ len' w' t'. from_listing n (suc id) (requested_traced more b s id es len (visits_in w) w t).entries len' w' t' k) (requested_traced more b s id es len (visits_in w) w t).reach
 
 -- ---- one id, all ids
 abbrev pub to_within : CallWith → CallWithin
@@ -114,7 +114,7 @@ module _ (s : Session) (section w t : List ℕ) where
           (ap (λ (r : Stage). to_within (settled_with s (length w) (length t) l r)) (with_ceiling (Within c) (up_to (entries_in l)) (table_for s section) section id [] s.text_len s.visits w t k refl refl))
 
   pub type_listing : (id : ℕ) (l : List ℕ) (k : ℕ) → to_causes (type_call_with Listed s section w t id l k) ≡ type_causes s section w t id l
-  unfolding type_call_with type_causes settled_with settled_noted
+  unfolding type_call_with type_causes settled_with settled_traced
   type_listing id l k = go now_current (ltb id s.types) refl refl
     where
       go : (q u : Bool) → now_current ≡ q → ltb id s.types ≡ u → to_causes (type_call_with Listed s section w t id l k) ≡ type_causes s section w t id l
@@ -145,7 +145,7 @@ module _ (s : Session) (section w t : List ℕ) where
           (ap (λ (r : Stage). to_within (settled_with s (length w) (length t) l r)) (from_under (up_to (entries_in l)) (table_for s section) section c ((table_for s section).types - 1) 1 [] s.text_len w t 0))
 
   pub types_listing : (l : List ℕ) → to_causes (types_call_with Listed s section w t l) ≡ types_causes s section w t l
-  unfolding types_call_with types_causes settled_with settled_noted
+  unfolding types_call_with types_causes settled_with settled_traced
   types_listing l = go now_current refl
     where
       go : (q : Bool) → now_current ≡ q → to_causes (types_call_with Listed s section w t l) ≡ types_causes s section w t l
@@ -263,5 +263,5 @@ module _ (s : Session) (section w t : List ℕ) (r : Ended) (w' t' l' : List ℕ
   causes_list ids l e = same_causes _ e ∙ list_listing section ids 0 s w t l 0
 
 -- ---- what a request with a leader for each listed id asks of the leaders
-pub listed_asks : Ready Listed 1 (lead_words (replicate 262145 (record { turn = 0; lead = 0 })))
-listed_asks _ = (words_length _ ∙ length-replicate {A = Lead} 262145 (record { turn = 0; lead = 0 }), none_before _ made)
+pub listed_asks : Ready Listed 1 (leader_words (replicate 262145 (record { turn = 0; lead = 0 })))
+listed_asks _ = (words_length _ ∙ length-replicate {A = Leader} 262145 (record { turn = 0; lead = 0 }), none_before _ made)

@@ -11,7 +11,7 @@ use Rattle.spec_bytes.proofs.words.Laws.{get_in}
 use Rattle.spec_session.specs.session.Turns.{then_zeros}
 use Rattle.spec_c_dumper.specs.origins.Causes.{Entry, entry, word_bytes, bytes_of, filled}
 use Rattle.spec_c_dumper.proofs.origins.Listed.{bytes_append}
-use Rattle.c_dumper_emit.specs.entries.Noted.{entry_at, entries_of}
+use Rattle.c_dumper_emit.specs.entries.Traced.{entry_at, entries_of}
 use Rattle.c_dumper_emit.proofs.entries.Laws.{entries_length}
 
 -- ---- the bytes of entries

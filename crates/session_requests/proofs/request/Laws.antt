@@ -20,13 +20,13 @@ use Rattle.spec_type_table.specs.Cells.{get_field}
 use Rattle.spec_type_table.specs.Table.{btf_of}
 use Rattle.c_dumper_dependency_order.specs.order_state.Work.{mark_of, table_in}
 use Rattle.c_dumper_dependency_order.specs.ways.Idle.{idle_in, counted}
-use Rattle.c_dumper_dependency_order.specs.declared.leaders.Lead.{Lead}
-use Rattle.c_dumper_dependency_order.specs.leaders.Leads.{lead_words}
+use Rattle.c_dumper_dependency_order.specs.declared.leaders.Leader.{Leader}
+use Rattle.c_dumper_dependency_order.specs.leaders.Leaders.{leader_words}
 use Rattle.c_dumper_dependency_order.proofs.leaders.Laws.{words_length}
 use Rattle.c_dumper_dependency_order.proofs.ways.Laws.{idle_none, idle_one}
-use Rattle.spec_session.specs.emission.Sheet.{is_idle}
+use Rattle.spec_session.specs.emission.Slices.{is_idle}
 use Rattle.spec_session.specs.metered.Metered.{calls_in}
-use Rattle.c_dumper_emit.specs.entries.Noted.{entries_of}
+use Rattle.c_dumper_emit.specs.entries.Traced.{entries_of}
 use Rattle.c_dumper_emit.proofs.entries.Laws.{entries_length}
 use Rattle.c_dumper_emit.proofs.dump_type.Requests.{idle_request}
 use Rattle.spec_session.proofs.metered.Idle.{idle_calls}
@@ -37,8 +37,8 @@ use Rattle.spec_session.specs.calls.Calls.{came_to, lent_to, requested}
 use Rattle.spec_session.proofs.calls.Laws.{idle_reach}
 use Rattle.spec_c_dumper.specs.origins.Causes.{Entry, up_to, entries_in}
 use Rattle.spec_c_dumper.specs.origins.Claims.{forget}
-use Rattle.spec_session.specs.origin_calls.Bytes.{Reached as Noted, entries_after, came_to_noted, requested_noted}
-use Rattle.spec_session.proofs.origins_after.Shift.{behind, requested_shift, idle_noted}
+use Rattle.spec_session.specs.origin_calls.Bytes.{Reached as Traced, entries_after, came_to_traced, requested_traced}
+use Rattle.spec_session.proofs.origins_after.Shift.{behind, requested_shift, idle_traced}
 use Rattle.spec_session.specs.metered.Within.{Within, requested_within}
 use Rattle.session_requests.proofs.request.Entries.{joined, whole_length, head_stays, put_is}
 use Rattle.c_dumper_emit.proofs.dump_type.Leaders.{before_more}
@@ -46,7 +46,7 @@ use Rattle.session_requests.specs.declared.options.Options.{Options}
 use Rattle.session_requests.specs.declared.options.Options.TheVariants as option
 use Rattle.session_requests.specs.options.Options.{is_listed, is_counted, most_calls, ceiling_of}
 use Rattle.session_requests.specs.options.Counted.{Progress}
-use Rattle.session_requests.specs.options.Requests.{Stage, stage_of, within_of, noted_of, idle_after, fits_under, made_under, Under, Fits, Ready, requested_listed, requested_under, requested_with}
+use Rattle.session_requests.specs.options.Requests.{Stage, stage_of, within_of, traced_of, idle_after, fits_under, made_under, Under, Fits, Ready, requested_listed, requested_under, requested_with}
 
 -- ---- the options decide
 -- no call has both
@@ -57,7 +57,7 @@ single (option.Listed) e = refl
 
 module _ (o : Options) (more : ℕ → Bool) (b : TypeTable) (s : List ℕ) (id : ℕ) (es : List Entry) (len v : ℕ) (w t : List ℕ) (k : ℕ) where
   pub with_lists : (is_listed o) ≡ true → (is_counted o) ≡ false
-      → requested_with o more b s id es len v w t k ≡ record { reach = (requested_noted more b s id es len v w t).reach; entries = (requested_noted more b s id es len v w t).entries; made = k }
+      → requested_with o more b s id es len v w t k ≡ record { reach = (requested_traced more b s id es len v w t).reach; entries = (requested_traced more b s id es len v w t).entries; made = k }
   unfolding requested_with requested_under requested_listed fits_under made_under
   with_lists l c = λ i. requested_under more b s (l i) (c i) (most_calls o) id es len v w t k
 
@@ -95,8 +95,8 @@ idle_counted (option.Listed) e k = absurd (true≢false (sym e))
 
 -- ---- dump_one
 module _ (o : Options) (more : ℕ → Bool) (b : TypeTable) (s : List ℕ) (id len v : ℕ) (w t : List ℕ) (k : ℕ) (w' t' l' : List ℕ) where
-  pub one_listed : (is_listed o) ≡ true → (d : Progress) → noted_of d w' t' l' ≡ requested_noted more b s id [] len v w t → d.made ≡ k → stage_of d w' t' l' ≡ requested_with o more b s id [] len v w t k
-  unfolding stage_of noted_of
+  pub one_listed : (is_listed o) ≡ true → (d : Progress) → traced_of d w' t' l' ≡ requested_traced more b s id [] len v w t → d.made ≡ k → stage_of d w' t' l' ≡ requested_with o more b s id [] len v w t k
+  unfolding stage_of traced_of
   one_listed l d e m = (λ i. record { reach = (e i).reach; entries = (e i).entries; made = m i }) ∙ sym (with_lists o more b s id [] len v w t k l (single o l))
 
   pub one_within : (is_listed o) ≡ false → (is_counted o) ≡ true → (d : Progress) → within_of d w' t' ≡ requested_within (most_calls o) b s id len v w t k → d.count ≡ 0 → stage_of d w' t' l' ≡ requested_with o more b s id [] len v w t k
@@ -108,12 +108,12 @@ module _ (o : Options) (more : ℕ → Bool) (b : TypeTable) (s : List ℕ) (id 
   one_plain l c r e = (λ i. record { reach = e i; entries = []; made = k }) ∙ sym (with_none o more b s id [] len v w t k l c)
 
 -- the words of as many leaders are as many
-pub words_kept : (l l' : List Lead) → length l' ≡ length l → length (lead_words l') ≡ length (lead_words l)
+pub words_kept : (l l' : List Leader) → length l' ≡ length l → length (leader_words l') ≡ length (leader_words l)
 words_kept l l' e = words_length l' ∙ e ∙ sym (words_length l)
 
 -- without a list nothing is asked of the leaders
-pub no_words : (o : Options) (turn : ℕ) (leads : List ℕ) → (is_listed o) ≡ false → Ready o turn leads
-no_words o turn leads e h = absurd (true≢false (sym h ∙ e))
+pub no_words : (o : Options) (turn : ℕ) (leaders : List ℕ) → (is_listed o) ≡ false → Ready o turn leaders
+no_words o turn leaders e h = absurd (true≢false (sym h ∙ e))
 
 pub under_same : (o : Options) (k k' : ℕ) → Under o k → k' ≡ k → Under o k'
 under_same o k k' u e h = subst (λ (n : ℕ). n ≤ (most_calls o)) (sym e) (u h)
@@ -138,7 +138,7 @@ module _ (o : Options) (room : ℕ) (b : TypeTable) (s : List ℕ) (id : ℕ) (e
       made : ℕ
       made = made_under (is_counted o) k (calls_in b s w id)
 
-      stage : Noted → Stage
+      stage : Traced → Stage
       stage n = record { reach = n.reach; entries = n.entries; made = made_under (is_counted o) k (calls_in b s w id) }
 
       go : (q : Bool) → (elim q as (λ _. Stage) [ true ↦ stage (requested_listed (up_to room) b s (is_listed o) id es len v w t) | false ↦ record { reach = refused_by 22 len v (take len t); entries = es; made = (most_calls o) } ])
@@ -223,12 +223,12 @@ module _ (o : Options) (b : TypeTable) (s w t l : List ℕ) (len v c id k : ℕ)
   abbrev alone : Stage
   alone = requested_with o (up_to (entries_in l - length (entries_of c l))) b s id [] len v w t k
 
-  shifted : stage_of r w' t' l' ≡ behind_with (entries_of c l) alone
-  shifted = e ∙ with_shift o (entries_in l) b s id (entries_of c l) len v w t k
+  moved : stage_of r w' t' l' ≡ behind_with (entries_of c l) alone
+  moved = e ∙ with_shift o (entries_in l) b s id (entries_of c l) len v w t k
 
   all_entries : entries_of r.count l' ≡ entries_of c l ++ alone.entries
   unfolding stage_of
-  all_entries = ap (λ (x : Stage). x.entries) shifted
+  all_entries = ap (λ (x : Stage). x.entries) moved
 
   count_sum : r.count ≡ c + length alone.entries
   count_sum = sym (entries_length r.count l') ∙ ap length all_entries ∙ length-append (entries_of c l) alone.entries ∙ ap (λ (n : ℕ). n + length alone.entries) (entries_length c l)
@@ -247,7 +247,7 @@ module _ (o : Options) (b : TypeTable) (s w t l : List ℕ) (len v c id k : ℕ)
   unfolding stage_of
   part_stage =
       let m : entries_in l - length (entries_of c l) ≡ entries_in room = omega (arith, room_length, entries_length c l) in
-      (λ i. record { reach = (shifted i).reach; entries = its_entries i; made = (shifted i).made })
+      (λ i. record { reach = (moved i).reach; entries = its_entries i; made = (moved i).made })
       ∙ ap (λ (n : ℕ). requested_with o (up_to n) b s id [] len v w t k) m
 
 -- ---- dump_next
@@ -279,10 +279,10 @@ module _ (o : Options) (b : TypeTable) (s w t l : List ℕ) (room : ℕ) (p : Pr
   one_call = idle_calls b s w id idle
 
   nothing : (lists : Bool) → record { reach = reach_of (record { len = len; stop = None; visits = v }) w t; entries = es } ≡ requested_listed (up_to room) b s lists id es len v w t
-  unfolding requested_listed requested_noted came_to_noted forget entries_after requested
+  unfolding requested_listed requested_traced came_to_traced forget entries_after requested
   nothing true =
       ap (λ (x : Reach). record { reach = x; entries = es }) ((idle_reach b s w t len v v id short q e z).0 ∙ ap (came_to len v t) (idle_request b (btf_of b s w) 0 (lent_to len t) w id idle))
-      ∙ sym (ap (came_to_noted len v t es) (idle_noted b s w (lent_to len t) id (up_to room) es idle))
+      ∙ sym (ap (came_to_traced len v t es) (idle_traced b s w (lent_to len t) id (up_to room) es idle))
   nothing false = ap (λ (x : Reach). record { reach = x; entries = es }) (idle_reach b s w t len v v id short q e z).0
 
   abbrev Next : Progress → Type 0
@@ -351,5 +351,5 @@ module _ (o : Options) (b : TypeTable) (s w t l : List ℕ) (room : ℕ) (p : Pr
           (cases_lt k c₀)
 
 -- what is ready for one turn is so for the next, where nothing was noted
-pub ready_more : (o : Options) (turn : ℕ) (leads : List ℕ) → Ready o turn leads → Ready o (turn + 1) leads
-ready_more o turn leads h l = ((h l).0, before_more turn leads (h l).1)
+pub ready_more : (o : Options) (turn : ℕ) (leaders : List ℕ) → Ready o turn leaders → Ready o (turn + 1) leaders
+ready_more o turn leaders h l = ((h l).0, before_more turn leaders (h l).1)

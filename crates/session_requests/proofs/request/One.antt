@@ -16,8 +16,8 @@ use Rattle.spec_c_dumper.specs.origins.Causes.{up_to, entries_in}
 use Rattle.spec_type_table.specs.declared.types.TypeTable.{TypeTable}
 use Rattle.spec_type_table.specs.Table.{btf_of}
 use Rattle.c_dumper_dependency_order.specs.begin.Start.{limit_of as limit_by}
-use Rattle.spec_session.specs.emission.Sheet.{emit_out}
-use Rattle.spec_session.proofs.emission.Laws.{sheet}
+use Rattle.spec_session.specs.emission.Slices.{emit_out}
+use Rattle.spec_session.proofs.emission.Laws.{slices}
 use Rattle.spec_session.specs.metered.Metered.{ordered_in, calls_in}
 use Rattle.spec_session.proofs.metered.Laws.{request_fits, request_over}
 use Rattle.spec_session.specs.declared.session.Reached.{Reached}
@@ -27,9 +27,9 @@ use Rattle.spec_session.proofs.calls.Laws.{arrived_in_lem, arrived_past, end_acc
 use Rattle.session_record.specs.arrival.Arrival.{arrived_in}
 use Rattle.session_record.proofs.arrival.Arrival.{room_fits, arrived_accepted, arrived_refused, from_to, to_end}
 use Rattle.c_dumper_emit.specs.declared.entries.Pen.{Pen}
-use Rattle.c_dumper_emit.specs.entries.Noted.{noted_out}
+use Rattle.c_dumper_emit.specs.entries.Traced.{traced_out}
 use Rattle.c_dumper_emit.proofs.entries.Laws.{Penned}
-use Rattle.c_dumper_emit.specs.dump_type.Kept.{with_leads, dumped_kept}
+use Rattle.c_dumper_emit.specs.dump_type.Kept.{with_leaders, dumped_kept}
 use Rattle.c_dumper_emit.proofs.dump_type.Requests.{plain_is, plain_made, fits_is, fits_made, over_is, over_made}
 use Rattle.session_requests.specs.declared.options.Options.{Options}
 use Rattle.session_requests.specs.declared.options.Options.TheVariants as option
@@ -57,7 +57,7 @@ module _ (o : Options) (b : TypeTable) (few : b.types ≤ 262145) (s w t l : Lis
     (under : Under o k) (turn : ℕ) (q q' : List ℕ) (ready : Ready o turn q) (lq : length q' ≡ length q)
     (d : Penned) (u w' l' : List ℕ) (same : length u ≡ length (mid_of len (to - len) t)) (m : ℕ)
     (lists : Bool) (asks : lists ≡ is_listed o) (ceiling : Option ℕ) (ec : ceiling ≡ ceiling_of o)
-    (told_e : with_leads q' (noted_out 0 d u w' l') ≡ obind (with_leads q (noted_out 0 (Ok (record { at = 0; count = 0 })) (mid_of len (to - len) t) w l)) (λ x. dumped_kept b (btf_of b s w) (record { lists = lists; room = entries_in l }) (limit_by ceiling) x id turn k))
+    (told_e : with_leaders q' (traced_out 0 d u w' l') ≡ obind (with_leaders q (traced_out 0 (Ok (record { at = 0; count = 0 })) (mid_of len (to - len) t) w l)) (λ x. dumped_kept b (btf_of b s w) (record { lists = lists; room = entries_in l }) (limit_by ceiling) x id turn k))
     (told_m : m ≡ calls_made (ordered_in (btf_of b s w) (limit_by ceiling) (record { work = w; len = 0 }) id k)) (v : ℕ) where
   below : len ≤ to
   below = from_to (length t) len to el within
@@ -79,8 +79,8 @@ module _ (o : Options) (b : TypeTable) (few : b.types ≤ 262145) (s w t l : Lis
 
   -- what the code hands on says what the options say
   e_at : (x : Bool) (y : Limit) → (is_listed o) ≡ x → limit_by (ceiling_of o) ≡ y
-      → with_leads q' (noted_out 0 d u w' l') ≡ obind (with_leads q (noted_out 0 (Ok (record { at = 0; count = 0 })) mid w l)) (λ z. dumped_kept b (btf_of b s w) (record { lists = x; room = entries_in l }) y z id turn k)
-  e_at x y ex ey = told_e ∙ (λ i. obind (with_leads q (noted_out 0 (Ok (record { at = 0; count = 0 })) mid w l)) (λ z. dumped_kept b (btf_of b s w) (record { lists = (asks ∙ ex) i; room = entries_in l }) ((ap limit_by ec ∙ ey) i) z id turn k))
+      → with_leaders q' (traced_out 0 d u w' l') ≡ obind (with_leaders q (traced_out 0 (Ok (record { at = 0; count = 0 })) mid w l)) (λ z. dumped_kept b (btf_of b s w) (record { lists = x; room = entries_in l }) y z id turn k)
+  e_at x y ex ey = told_e ∙ (λ i. obind (with_leaders q (traced_out 0 (Ok (record { at = 0; count = 0 })) mid w l)) (λ z. dumped_kept b (btf_of b s w) (record { lists = (asks ∙ ex) i; room = entries_in l }) ((ap limit_by ec ∙ ey) i) z id turn k))
 
   m_at : (y : Limit) → limit_by (ceiling_of o) ≡ y → m ≡ calls_made (ordered_in (btf_of b s w) y (record { work = w; len = 0 }) id k)
   m_at y ey = told_m ∙ ap (λ (z : Limit). calls_made (ordered_in (btf_of b s w) z (record { work = w; len = 0 }) id k)) (ap limit_by ec ∙ ey)
@@ -110,7 +110,7 @@ module _ (o : Options) (b : TypeTable) (few : b.types ≤ 262145) (s w t l : Lis
               under_still = under_same o k m under n;
             };
         inside = listed.inside b few s w t l len id to small d u w' l' turn k q q' (ready ex).0 (ready ex).1 (e_at true unbounded ex f);
-        ready_next = λ p z x. (lq ∙ (ready x).0, listed.noted_before b few s w t l len id to small d u w' l' turn k q q' (ready ex).0 (ready ex).1 (e_at true unbounded ex f) p z);
+        ready_next = λ p z x. (lq ∙ (ready x).0, listed.traced_before b few s w t l len id to small d u w' l' turn k q q' (ready ex).0 (ready ex).1 (e_at true unbounded ex f) p z);
       }
 
   module _ (ex : (is_listed o) ≡ false) where
@@ -120,7 +120,7 @@ module _ (o : Options) (b : TypeTable) (few : b.types ≤ 262145) (s w t l : Lis
         let g = e_at false unbounded ex f in
         let n : m ≡ k = m_at unbounded f ∙ plain_made (btf_of b s w) (record { work = w; len = 0 }) id k in
         let z : count_of d ≡ 0 = bare.empty b s w t l len id to d u w' l' unbounded turn k q q' g in
-        let h = plain_is b (btf_of b s w) (sheet 0 0 mid w) id k in
+        let h = plain_is b (btf_of b s w) (slices 0 0 mid w) id k in
         record {
           told = λ r er. record {
             stage = (λ i. stage_of (record { of = r; count = z i; made = n i }) w' text' l')
@@ -136,19 +136,19 @@ module _ (o : Options) (b : TypeTable) (few : b.types ≤ 262145) (s w t l : Lis
       f : limit_by (ceiling_of o) ≡ most c
       f = most_is o ey
 
-      none_noted : count_of d ≡ 0
-      none_noted = bare.empty b s w t l len id to d u w' l' (most c) turn k q q' (e_at false (most c) ex f)
+      none_traced : count_of d ≡ 0
+      none_traced = bare.empty b s w t l len id to d u w' l' (most c) turn k q q' (e_at false (most c) ex f)
 
       way_fits : k + opens ≤ c → Way
       unfolding within_of
       way_fits h =
-          let n : m ≡ k + opens = m_at (most c) f ∙ fits_made b s (sheet 0 0 mid w) refl id c k h in
-          let g = fits_is b s (sheet 0 0 mid w) refl id c k h in
+          let n : m ≡ k + opens = m_at (most c) f ∙ fits_made b s (slices 0 0 mid w) refl id c k h in
+          let g = fits_is b s (slices 0 0 mid w) refl id c k h in
           record {
             told = λ r er. record {
               stage = one_within o (up_to (entries_in l)) b s id len v w t k w' text' l' ex ey (record { of = r; count = count_of d; made = m })
-                  ((λ i. record { reach = bare.as_plain b s w t l len id to d u w' l' (most c) turn k q q' (e_at false (most c) ex f) g el v r text' er i; made = n i }) ∙ sym (request_fits c b s id len v w t k h)) none_noted;
-              counts = none_count (count_of d) (entries_in l) none_noted;
+                  ((λ i. record { reach = bare.as_plain b s w t l len id to d u w' l' (most c) turn k q q' (e_at false (most c) ex f) g el v r text' er i; made = n i }) ∙ sym (request_fits c b s id len v w t k h)) none_traced;
+              counts = none_count (count_of d) (entries_in l) none_traced;
               under_still = λ _. omega arith;
             };
             inside = bare.inside b s w t l len id to d u w' l' (most c) turn k q q' (e_at false (most c) ex f) g;
@@ -158,13 +158,13 @@ module _ (o : Options) (b : TypeTable) (few : b.types ≤ 262145) (s w t l : Lis
       way_over : c < k + opens → Way
       unfolding within_of
       way_over h =
-          let n : m ≡ c = m_at (most c) f ∙ over_made b s (sheet 0 0 mid w) refl id c k (under ey) h in
-          let g = over_is b s (sheet 0 0 mid w) refl id c k (under ey) h in
+          let n : m ≡ c = m_at (most c) f ∙ over_made b s (slices 0 0 mid w) refl id c k (under ey) h in
+          let g = over_is b s (slices 0 0 mid w) refl id c k (under ey) h in
           record {
             told = λ r er. record {
               stage = one_within o (up_to (entries_in l)) b s id len v w t k w' text' l' ex ey (record { of = r; count = count_of d; made = m })
-                  ((λ i. record { reach = bare.as_over b s w t l len id to d u w' l' (most c) turn k q q' (e_at false (most c) ex f) g v r text' er i; made = n i }) ∙ sym (request_over c b s id len v w t k h)) none_noted;
-              counts = none_count (count_of d) (entries_in l) none_noted;
+                  ((λ i. record { reach = bare.as_over b s w t l len id to d u w' l' (most c) turn k q q' (e_at false (most c) ex f) g v r text' er i; made = n i }) ∙ sym (request_over c b s id len v w t k h)) none_traced;
+              counts = none_count (count_of d) (entries_in l) none_traced;
               under_still = λ _. omega arith;
             };
             inside = λ p y. absurd (bare.never_inside b s w t l len id to d u w' l' (most c) turn k q q' (e_at false (most c) ex f) g p y);

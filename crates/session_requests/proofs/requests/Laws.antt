@@ -20,13 +20,13 @@ use Rattle.spec_session.specs.session.Turns.{call_of, refused_turn, is_current, 
 use Rattle.spec_session.proofs.session.Laws.{reach_accepted, reach_refused}
 use Rattle.spec_session.specs.calls.Refusals.{number, value, not_current, refusal}
 use Rattle.spec_c_dumper.specs.origins.Causes.{Entry, up_to, filled, entries_in}
-use Rattle.c_dumper_emit.specs.entries.Noted.{entries_of}
+use Rattle.c_dumper_emit.specs.entries.Traced.{entries_of}
 use Rattle.c_dumper_emit.proofs.entries.Laws.{entries_length}
 use Rattle.session_requests.proofs.request.Entries.{filled_is}
 use Rattle.spec_c_dumper.specs.rules.Machine.{pick}
 use lib.LanesLaws.{map-replicate}
-use Rattle.c_dumper_dependency_order.specs.leaders.Leads.{lead_word, lead_words}
-use Rattle.c_dumper_emit.specs.dump_type.Kept.{no_leads}
+use Rattle.c_dumper_dependency_order.specs.leaders.Leaders.{leader_word, leader_words}
+use Rattle.c_dumper_emit.specs.dump_type.Kept.{no_leaders}
 use Rattle.session_requests.specs.declared.options.Options.{Options}
 use Rattle.session_requests.specs.options.Counted.{Progress}
 use Rattle.session_requests.specs.options.Counted.{Ended}
@@ -87,9 +87,9 @@ module _ (o : Options) (room : ℕ) (b : TypeTable) (s : List ℕ) (whole : Stag
 
 -- ---- type_with, types_with
 -- the array, as the code makes it
-pub made : lead_words (replicate 262145 (record { turn = 0; lead = 0 })) ≡ no_leads
-unfolding no_leads lead_words lead_word
-made = map-replicate lead_word 262145 (record { turn = 0; lead = 0 })
+pub made : leader_words (replicate 262145 (record { turn = 0; lead = 0 })) ≡ no_leaders
+unfolding no_leaders leader_words leader_word
+made = map-replicate leader_word 262145 (record { turn = 0; lead = 0 })
 
 pub few_settings : (section : List ℕ) (pointer modes types : ℕ) (b : TypeTable) → b ≡ settings_of section pointer modes types → b.types ≤ 262145
 unfolding settings_of
@@ -100,8 +100,8 @@ few_settings section pointer modes types b e = subst (λ (n : ℕ). n ≤ 262145
     go false q = omega arith
 
 -- what a call has ready its requests have, at the same options
-pub ready_same : (o o' : Options) (turn : ℕ) (leads : List ℕ) → o' ≡ o → Ready o turn leads → Ready o' turn leads
-ready_same o o' turn leads e h = subst (λ (x : Options). Ready x turn leads) (sym e) h
+pub ready_same : (o o' : Options) (turn : ℕ) (leaders : List ℕ) → o' ≡ o → Ready o turn leaders → Ready o' turn leaders
+ready_same o o' turn leaders e h = subst (λ (x : Options). Ready x turn leaders) (sym e) h
 
 -- ---- end
 module _ (s : Session) (r : Progress) (w t l : List ℕ) (bytes : (i : ℕ) → get_or l i 0 < 256) (few : r.count ≤ entries_in l) where

@@ -24,7 +24,7 @@ use Rattle.spec_c_dumper.specs.rules.Types.{table_of}
 use Rattle.spec_c_dumper.specs.rules.Request.{dumped}
 use Rattle.spec_type_table.specs.declared.types.TypeTable.{TypeTable}
 use Rattle.spec_type_table.specs.Table.{btf_of}
-use Rattle.spec_session.specs.emission.Sheet.{Sheet, work_machine}
+use Rattle.spec_session.specs.emission.Slices.{Slices, work_machine}
 use Rattle.spec_session.specs.session.Answers.{Refused, answer_is, number_of, answer_of}
 use Rattle.spec_session.specs.declared.session.Session.{Session}
 use Rattle.spec_session.specs.declared.session.Turn.{Turn}
@@ -36,12 +36,12 @@ use Rattle.spec_session.specs.calls.Lists.{ids_in, count_in, tailed, list_end}
 use Rattle.spec_session.proofs.calls.Claims.{number_is, request_sane, type_settles, zeros_length, zeros_head}
 use Rattle.spec_session.proofs.calls.Singles.{settled_with_lem}
 use Rattle.spec_session.proofs.calls.Lists.{ids_from, ids_all, ids_none, ids_some, ids_cons, tail_length, tail_head, current, called, open_now, sane_listed}
-use Rattle.spec_c_dumper.specs.origins.Causes.{Noted as NotedOf, up_to, shows_in, filled, entries_in}
+use Rattle.spec_c_dumper.specs.origins.Causes.{Traced as TracedOf, up_to, shows_in, filled, entries_in}
 use Rattle.spec_c_dumper.specs.origins.Claims.{forget, Lined}
-use Rattle.spec_session.specs.origin_calls.Bytes.{dumped_noted, came_to_noted, requested_noted}
+use Rattle.spec_session.specs.origin_calls.Bytes.{dumped_traced, came_to_traced, requested_traced}
 use Rattle.spec_session.proofs.origin_calls.Bytes.{dumped_lined}
 use Rattle.spec_session.specs.metered.Metered.{calls_in}
-use Rattle.c_dumper_emit.specs.entries.Noted.{entries_of}
+use Rattle.c_dumper_emit.specs.entries.Traced.{entries_of}
 use Rattle.c_dumper_emit.proofs.entries.Laws.{entries_length}
 use Rattle.session_requests.proofs.request.Entries.{filled_is, byte_after, take_both}
 use Rattle.session_requests.proofs.request.Laws.{part_same, part_put, part_count, part_few, part_stage}
@@ -110,17 +110,17 @@ clean_start len t = refl
 
 -- ---- a refused request's number
 module _ (room : ℕ) (b : TypeTable) (s : List ℕ) (id len v : ℕ) (w t : List ℕ) where
-  abbrev F : (ℕ → Bool) → Out (NotedOf Sheet)
-  F r = dumped_noted (work_machine b (btf_of b s w)) (table_of (btf_of b s w)) r (shows_in (btf_of b s w)) (record { work = w; text = lent_to len t; at = 0; len = 0 }) [] id
+  abbrev F : (ℕ → Bool) → Out (TracedOf Slices)
+  F r = dumped_traced (work_machine b (btf_of b s w)) (table_of (btf_of b s w)) r (shows_in (btf_of b s w)) (record { work = w; text = lent_to len t; at = 0; len = 0 }) [] id
 
   lined : Lined ⊥ 0 F (dumped (work_machine b (btf_of b s w)) (table_of (btf_of b s w)) (record { work = w; text = lent_to len t; at = 0; len = 0 }) id)
   lined = dumped_lined (work_machine b (btf_of b s w)) (table_of (btf_of b s w)) (shows_in (btf_of b s w)) (record { work = w; text = lent_to len t; at = 0; len = 0 }) [] id
 
-  noted_reach : ((requested_noted (up_to room) b s id [] len v w t).reach ≡ requested b s id len v w t) ⊎ ((requested_noted (up_to room) b s id [] len v w t).reach ≡ refused_by 17 len v (take len t))
-  unfolding requested_noted came_to_noted requested came_to forget
-  noted_reach = ⊎_elim
-      (λ h. inr (ap (λ (o : Out (NotedOf Sheet)). came_to len v t (forget o)) (lined.short room zero-le h)))
-      (λ h. inl (ap (λ (o : Out (NotedOf Sheet)). came_to len v t (forget o)) (lined.fits room h) ∙ ap (came_to len v t) lined.same)) (cases_lt room lined.need)
+  traced_reach : ((requested_traced (up_to room) b s id [] len v w t).reach ≡ requested b s id len v w t) ⊎ ((requested_traced (up_to room) b s id [] len v w t).reach ≡ refused_by 17 len v (take len t))
+  unfolding requested_traced came_to_traced requested came_to forget
+  traced_reach = ⊎_elim
+      (λ h. inr (ap (λ (o : Out (TracedOf Slices)). came_to len v t (forget o)) (lined.short room zero-le h)))
+      (λ h. inl (ap (λ (o : Out (TracedOf Slices)). came_to len v t (forget o)) (lined.fits room h) ∙ ap (came_to len v t) lined.same)) (cases_lt room lined.need)
 
   module _ (short : len ≤ length t) where
     number_same : {a a' : ℕ} {d d' : ℕ} {e e' : ℕ} {u u' : List ℕ} → refused_by a d e u ≡ refused_by a' d' e' u' → a ≡ a'
@@ -133,7 +133,7 @@ module _ (room : ℕ) (b : TypeTable) (s : List ℕ) (id len v : ℕ) (w t : Lis
 
     listed_large : (lists : Bool) (c len' v' : ℕ) (t' : List ℕ) → (requested_listed (up_to room) b s lists id [] len v w t).reach ≡ refused_by c len' v' t' → 12 ≤ c
     unfolding requested_listed
-    listed_large true c len' v' t' q = ⊎_elim (λ p. plain_large c len' v' t' (sym p ∙ q)) (λ p. let z : 17 ≡ c = number_same (sym p ∙ q) in omega arith) noted_reach
+    listed_large true c len' v' t' q = ⊎_elim (λ p. plain_large c len' v' t' (sym p ∙ q)) (λ p. let z : 17 ≡ c = number_same (sym p ∙ q) in omega arith) traced_reach
     listed_large false c len' v' t' q = plain_large c len' v' t' q
 
     pub with_large : (o : Options) (k c len' v' : ℕ) (t' : List ℕ) → (requested_with o (up_to room) b s id [] len v w t k).reach ≡ refused_by c len' v' t' → 12 ≤ c

@@ -9,11 +9,11 @@ use Rattle.spec_session.specs.session.Turns.{Call, call_of, is_current, table_fo
 use Rattle.spec_session.specs.session.Turns.{settled, unchanged}
 use Rattle.spec_session.specs.calls.Refusals.{not_current, id_not_below, refusal}
 use Rattle.spec_session.specs.calls.Calls.{requested}
-use Rattle.spec_session.specs.origin_calls.Bytes.{Reached as Noted, requested_noted, CauseCall}
+use Rattle.spec_session.specs.origin_calls.Bytes.{Reached as Traced, requested_traced, CauseCall}
 use Rattle.spec_session.specs.metered.Within.{Within, CallWithin}
 use Rattle.spec_session.specs.metered.Metered.{calls_in}
 use Rattle.c_dumper_dependency_order.specs.ways.Idle.{counted}
-use Rattle.c_dumper_emit.specs.entries.Noted.{entries_of}
+use Rattle.c_dumper_emit.specs.entries.Traced.{entries_of}
 use Rattle.c_dumper_emit.specs.dump_type.Kept.{Before}
 use Rattle.session_requests.specs.declared.options.Options.{Options}
 use Rattle.session_requests.specs.options.Options.{is_listed, is_counted, most_calls, ceiling_of}
@@ -34,8 +34,8 @@ stage_of r w t l = record { reach = reach_of r.of w t; entries = entries_of r.co
 unfoldable pub within_of : Progress → List ℕ → List ℕ → Within
 within_of r w t = record { reach = reach_of r.of w t; made = r.made }
 
-unfoldable pub noted_of : Progress → List ℕ → List ℕ → List ℕ → Noted
-noted_of r w t l = record { reach = reach_of r.of w t; entries = entries_of r.count l }
+unfoldable pub traced_of : Progress → List ℕ → List ℕ → List ℕ → Traced
+traced_of r w t l = record { reach = reach_of r.of w t; entries = entries_of r.count l }
 
 -- ---- the options
 
@@ -56,14 +56,14 @@ Fits o p t l = (p.of.len ≤ length t) × (p.count ≤ entries_in l) × Under o 
 
 -- the words for the leaders, which only a list needs: one an id, and nothing noted in this turn yet
 abbrev pub Ready : Options → ℕ → List ℕ → Type 0
-Ready o turn leads = (is_listed o) ≡ true → (length leads ≡ 262145) × Before turn leads
+Ready o turn leaders = (is_listed o) ≡ true → (length leaders ≡ 262145) × Before turn leaders
 
 -- ---- one request, after a text of len bytes, v visits, the entries es and k calls
 module _ (more : ℕ → Bool) (b : TypeTable) (s : List ℕ) where
   -- with or without entries
-  unfoldable pub requested_listed : Bool → ℕ → List Entry → ℕ → ℕ → List ℕ → List ℕ → Noted
+  unfoldable pub requested_listed : Bool → ℕ → List Entry → ℕ → ℕ → List ℕ → List ℕ → Traced
   requested_listed lists id es len v w t =
-      elim lists [ true ↦ requested_noted more b s id es len v w t | false ↦ record { reach = requested b s id len v w t; entries = es } ]
+      elim lists [ true ↦ requested_traced more b s id es len v w t | false ↦ record { reach = requested b s id len v w t; entries = es } ]
 
   -- "22 when one more call would pass the ceiling"
   unfoldable pub requested_under : Bool → Bool → ℕ → ℕ → List Entry → ℕ → ℕ → List ℕ → List ℕ → ℕ → Stage

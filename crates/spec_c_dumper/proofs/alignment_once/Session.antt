@@ -29,7 +29,7 @@ use Rattle.spec_c_dumper.proofs.needs.Alike.{AlikeMachine, BothOut, both_wrote, 
 use Rattle.spec_c_dumper.proofs.needs.AnyNames.{Nearly}
 use Rattle.spec_c_dumper.specs.alignment_once.Once.{Remembered, unknown, Keep, Lawful, Once, found, refused, align_once, Tells, members_to}
 use Rattle.spec_c_dumper.specs.alignment_once.Steps.{padding_once, body_once}
-use Rattle.spec_c_dumper.specs.alignment_once.Writers.{Asks, answered, given_once, definition_once, forward_once, machine_once, answer_once, after_once, dumped_once, Minded, minded, carried, minded_asks, no_visits}
+use Rattle.spec_c_dumper.specs.alignment_once.Writers.{Asks, answered, given_once, definition_once, forward_once, machine_once, answer_once, after_once, dumped_once, Remembering, remembering_names, carried, remembering_asks, no_visits}
 use Rattle.spec_c_dumper.proofs.alignment_once.Right.{known_unknown}
 use Rattle.spec_c_dumper.proofs.alignment_once.Counted.{paid_none}
 use Rattle.spec_c_dumper.proofs.alignment_once.Fair.{Nothing, no_more, Honest, at_most, Fair, fair_body, fair_padding}
@@ -210,16 +210,16 @@ module _ {U M : Type 0} (K : Keep M) (N : Naming U) (B : Btf) (Good : M → Type
   Fine m k = Honest K B B.type_cnt Good Fits law fits wf.below Nothing (λ left id b m k l r g a. no_more (align_once K left B id m k)) m k
 
   -- the same names beside a right memory
-  abbrev pub Beside : Minded U M → U → Type 0
+  abbrev pub Beside : Remembering U M → U → Type 0
   Beside v u = (v.names ≡ u) × Fine v.memory v.visits
 
-  carried_fair : {A : Type 0} (v : Minded U M) (u : U) → Beside v u → (x : Ask A) (r : Once M A) → Fair K B B.type_cnt Good Fits law fits wf.below Nothing (λ left id b m k l r g a. no_more (align_once K left B id m k)) x r → Kept (minded_asks K B) (minded N) N B wf ends Beside u x (carried v r)
+  carried_fair : {A : Type 0} (v : Remembering U M) (u : U) → Beside v u → (x : Ask A) (r : Once M A) → Fair K B B.type_cnt Good Fits law fits wf.below Nothing (λ left id b m k l r g a. no_more (align_once K left B id m k)) x r → Kept (remembering_asks K B) (remembering_names N) N B wf ends Beside u x (carried v r)
   unfolding carried
   carried_fair v u h x (found a m k) f = (f.0, (h.0, f.1))
   carried_fair v u h x (refused c m k) f = f
 
-  pub minded_sound : Sound (minded_asks K B) (minded N) N B wf ends Beside
-  minded_sound = record {
+  pub remembering_sound : Sound (remembering_asks K B) (remembering_names N) N B wf ends Beside
+  remembering_sound = record {
     named = record {
       rel_type = λ space id name fit e v u r. (ap (λ (w : U). (N.type_version space id name w).version) r.0, (ap (λ (w : U). (N.type_version space id name w).names) r.0, r.1));
       rel_value = λ id i name fit v u r. (ap (λ (w : U). (N.value_version id i name w).version) r.0, (ap (λ (w : U). (N.value_version id i name w).names) r.0, r.1));
@@ -234,15 +234,15 @@ module _ {U M : Type 0} (K : Keep M) (N : Naming U) (B : Btf) (Good : M → Type
     begins = (refl, record { right = λ id s e. absurd (known_unknown s (sym (none id) ∙ e)); good = g; visits = sym (paid_none B (K.recall m) none B.type_cnt); also = tt })
 
     -- the same numbers, lengths and text
-    pub minded_session : (rs : List Req) → dumped_once (minded_asks K B) (minded N) B [] rs (opened_by (minded N) B (no_visits u m)) ≡ dumped N B [] rs (opened_by N B u)
-    minded_session rs = same_session (minded_asks K B) (minded N) N B wf ends Beside minded_sound (no_visits u m) u begins rs
+    pub remembering_session : (rs : List Req) → dumped_once (remembering_asks K B) (remembering_names N) B [] rs (opened_by (remembering_names N) B (no_visits u m)) ≡ dumped N B [] rs (opened_by N B u)
+    remembering_session rs = same_session (remembering_asks K B) (remembering_names N) N B wf ends Beside remembering_sound (no_visits u m) u begins rs
 
-    abbrev after : List Req → Minded U M
-    after rs = (after_once (minded_asks K B) (minded N) B rs (opened_by (minded N) B (no_visits u m))).mach.known.names
+    abbrev after : List Req → Remembering U M
+    after rs = (after_once (remembering_asks K B) (remembering_names N) B rs (opened_by (remembering_names N) B (no_visits u m))).mach.known.names
 
     -- the memory is right, and the visits are those of the types in it and their members
     pub session_fine : (rs : List Req) → Fine (after rs).memory (after rs).visits
-    session_fine rs = (session_pair (minded_asks K B) (minded N) N B wf ends Beside minded_sound (no_visits u m) u begins rs).1.1
+    session_fine rs = (session_pair (remembering_asks K B) (remembering_names N) N B wf ends Beside remembering_sound (no_visits u m) u begins rs).1.1
 
     -- "at most types plus members"
     pub session_visits : (rs : List Req) → (after rs).visits ≤ B.type_cnt + members_to B B.type_cnt

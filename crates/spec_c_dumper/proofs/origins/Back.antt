@@ -12,7 +12,7 @@ use Rattle.std.proofs.lemmas.Bool.{cases_lt}
 use Rattle.spec_c_dumper.specs.rules.Order.{Node, ignored, plain, listed, through, ptr, tdef, proto, comp, Table, Mark, new, busy, done}
 use Rattle.spec_c_dumper.specs.rules.Machine.{Out, wrote, stuck, Machine, is_zero, pick, obind, eeach, once, mention, again, close, leaf, within, begin, allowed, look}
 use Rattle.spec_c_dumper.specs.needs.Lists.{Piece, defines, other, Line, says, cannot, Lines, Ls, put_line, list_machine}
-use Rattle.spec_c_dumper.specs.origins.Causes.{Entry, entry, Noted, with_entries, line, cause_at, noting, emit_noted}
+use Rattle.spec_c_dumper.specs.origins.Causes.{Entry, entry, Traced, with_entries, line, cause_at, noting, emit_traced}
 use Rattle.spec_c_dumper.proofs.origins.Keeps.{Comes, comes, halts, comes_bind, comes_map}
 use Rattle.spec_c_dumper.proofs.listed_twice.Ordering.{new_busy, done_busy}
 
@@ -29,24 +29,24 @@ pub record Turns {M : Type 0} (X : Machine M) : Type 0 where
 
 module _ {M : Type 0} (X : Machine M) (room : ℕ → Bool) (shows : ℕ → Bool) (why : ℕ → Entry) (T : Table) (t : Turns X) where
   -- what is in progress after, was before
-  abbrev pub Back : Noted M → Noted M → Type 0
+  abbrev pub Back : Traced M → Traced M → Type 0
   Back s s' = (y : ℕ) → X.eget s'.mach y ≡ busy → X.eget s.mach y ≡ busy
 
-  abbrev N : ℕ → Machine (Noted M)
+  abbrev N : ℕ → Machine (Traced M)
   N cont = noting X room shows why cont
 
-  abbrev marked : ℕ → Mark → Noted M → Noted M
+  abbrev marked : ℕ → Mark → Traced M → Traced M
   marked x m s = record { mach = X.emark m x s.mach; entries = s.entries }
 
-  back_then : (a b c : Noted M) → Back a b → Back b c → Back a c
+  back_then : (a b c : Traced M) → Back a b → Back b c → Back a c
   back_then a b c g h y e = g y (h y e)
 
-  with_back : (es : List Entry) (s : Noted M) (o : Out M) → Comes (λ m'. (y : ℕ) → X.eget m' y ≡ X.eget s.mach y) o → Comes (Back s) (with_entries es o)
+  with_back : (es : List Entry) (s : Traced M) (o : Out M) → Comes (λ m'. (y : ℕ) → X.eget m' y ≡ X.eget s.mach y) o → Comes (Back s) (with_entries es o)
   unfolding with_entries
   with_back es s _ (comes h) = comes (λ y e. sym (h y) ∙ e)
   with_back es s _ halts = halts
 
-  line_back : (shown : Bool) (e : Entry) (step : M → Out M) → ((m : M) → Comes (λ m'. (y : ℕ) → X.eget m' y ≡ X.eget m y) (step m)) → (s : Noted M) → Comes (Back s) (line room shown e step s)
+  line_back : (shown : Bool) (e : Entry) (step : M → Out M) → ((m : M) → Comes (λ m'. (y : ℕ) → X.eget m' y ≡ X.eget m y) (step m)) → (s : Traced M) → Comes (Back s) (line room shown e step s)
   unfolding line
   line_back false e step h s = with_back s.entries s (step s.mach) (h s.mach)
   line_back true e step h s = by (room (length s.entries))
@@ -55,40 +55,40 @@ module _ {M : Type 0} (X : Machine M) (room : ℕ → Bool) (shows : ℕ → Boo
       by true = with_back (s.entries ++ (e ∷ [])) s (step s.mach) (h s.mach)
       by false = halts
 
-  each_back : (f : Noted M → ℕ → Out (Noted M)) → ((s : Noted M) (y : ℕ) → Comes (Back s) (f s y)) → (ys : List ℕ) (s : Noted M) → Comes (Back s) (eeach f ys s)
+  each_back : (f : Traced M → ℕ → Out (Traced M)) → ((s : Traced M) (y : ℕ) → Comes (Back s) (f s y)) → (ys : List ℕ) (s : Traced M) → Comes (Back s) (eeach f ys s)
   unfolding eeach
   each_back f h [] s = comes (λ y e. e)
   each_back f h (y ∷ ys) s = comes_bind (eeach f ys) (h s y) (λ s' q. comes_map (λ s'' q'. back_then s s' s'' q q') (each_back f h ys s'))
 
   -- x is made busy, what follows leaves nothing else in progress, and x is not in progress any more
-  done_around : (x : ℕ) (s s' : Noted M) → Back (marked x busy s) s' → Back s (marked x done s')
+  done_around : (x : ℕ) (s s' : Traced M) → Back (marked x busy s) s' → Back s (marked x done s')
   done_around x s s' q y e = let r = t.t_done x y s'.mach e in ⊎_elim (λ z. absurd (r.0 z)) (λ z. z) (t.t_busy x y s.mach (q y r.1))
 
-  new_around : (x : ℕ) (s s' : Noted M) → Back (marked x busy s) s' → Back s (marked x new s')
+  new_around : (x : ℕ) (s s' : Traced M) → Back (marked x busy s) s' → Back s (marked x new s')
   new_around x s s' q y e = let r = t.t_new x y s'.mach e in ⊎_elim (λ z. absurd (r.0 z)) (λ z. z) (t.t_busy x y s.mach (q y r.1))
 
-  done_after : (x : ℕ) (s s' : Noted M) → Back s s' → Back s (marked x done s')
+  done_after : (x : ℕ) (s s' : Traced M) → Back s s' → Back s (marked x done s')
   done_after x s s' q y e = q y (t.t_done x y s'.mach e).1
 
   module _ (x cont : ℕ) where
-    once_back : (w : Noted M → ℕ → Out (Noted M)) → ((s : Noted M) → Comes (Back s) (w s x)) → (b : Bool) (s : Noted M) → Comes (Back s) (once (N cont) T w x b s)
+    once_back : (w : Traced M → ℕ → Out (Traced M)) → ((s : Traced M) → Comes (Back s) (w s x)) → (b : Bool) (s : Traced M) → Comes (Back s) (once (N cont) T w x b s)
     unfolding once
     once_back w h true s = comes (λ y e. e)
     once_back w h false s = comes_bind (λ s'. wrote (record { mach = X.forwarded x s'.mach; entries = s'.entries })) (h s) (λ s' q. comes (λ y e. q y (sym (t.t_flag x y s'.mach) ∙ e)))
 
-    fwd_back : (b : Bool) (s : Noted M) → Comes (Back s) (once (N cont) T (N cont).fwd_line x b s)
+    fwd_back : (b : Bool) (s : Traced M) → Comes (Back s) (once (N cont) T (N cont).fwd_line x b s)
     fwd_back b s = once_back (N cont).fwd_line (λ s'. line_back (shows x) (entry x 2 cont) (λ m. X.fwd_line m x) (λ m. t.t_fwd m x) s') b s
 
-    alias_back : (b : Bool) (s : Noted M) → Comes (Back s) (once (N cont) T (N cont).alias_line x b s)
+    alias_back : (b : Bool) (s : Traced M) → Comes (Back s) (once (N cont) T (N cont).alias_line x b s)
     alias_back b s = once_back (N cont).alias_line (λ s'. line_back (shows x) (cause_at 3 (why x) x cont) (λ m. X.alias_line m x) (λ m. t.t_alias m x) s') b s
 
-    mention_back : (b nm : Bool) (s : Noted M) → Comes (Back s) (mention (N cont) T b nm x s)
+    mention_back : (b nm : Bool) (s : Traced M) → Comes (Back s) (mention (N cont) T b nm x s)
     unfolding mention
     mention_back true nm s = comes (λ y e. e)
     mention_back false true s = fwd_back false s
     mention_back false false s = halts
 
-    again_back : (s : Noted M) (nd : Node) → Comes (Back s) (again (N cont) T s x cont nd)
+    again_back : (s : Traced M) (nd : Node) → Comes (Back s) (again (N cont) T s x cont nd)
     unfolding again
     again_back s ignored = comes (λ y e. e)
     again_back s plain = comes (λ y e. e)
@@ -99,18 +99,18 @@ module _ {M : Type 0} (X : Machine M) (room : ℕ → Bool) (shows : ℕ → Boo
     again_back s (proto ts) = comes (λ y e. e)
     again_back s (comp ms) = mention_back (X.has_fwd s.mach x || eqb x cont) (T.named x) s
 
-    leaf_back : (b : Bool) (s : Noted M) → Comes (Back s) (leaf (N cont) T b x s)
+    leaf_back : (b : Bool) (s : Traced M) → Comes (Back s) (leaf (N cont) T b x s)
     unfolding leaf
     leaf_back true s = comes_bind (λ s'. wrote (marked x done s')) (line_back true (cause_at 2 (why x) x cont) (λ m. X.leaf_line m x) (λ m. t.t_leaf m x) s) (λ s' q. comes (done_after x s s' q))
     leaf_back false s = comes (done_after x s s (λ y e. e))
 
-    close_back : (top : Bool) (s s' : Noted M) → Back (marked x busy s) s' → Comes (Back s) (close (N cont) T top x s')
+    close_back : (top : Bool) (s s' : Traced M) → Back (marked x busy s) s' → Comes (Back s) (close (N cont) T top x s')
     unfolding close
     close_back true s s' q =
         comes_bind (λ s''. wrote (marked x done s'')) (line_back true (why x) (λ m. X.body m x) (λ m. t.t_body m x) s') (λ s'' q'. comes (done_around x s s'' (back_then (marked x busy s) s' s'' q q')))
     close_back false s s' q = comes (new_around x s s' q)
 
-    module _ (rec : Noted M → ℕ → ℕ → Out (Noted M)) (h : (s : Noted M) (y d : ℕ) → Comes (Back s) (rec s y d)) (s : Noted M) where
+    module _ (rec : Traced M → ℕ → ℕ → Out (Traced M)) (h : (s : Traced M) (y d : ℕ) → Comes (Back s) (rec s y d)) (s : Traced M) where
       within_back : (b nm : Bool) (ms : List ℕ) → Comes (Back (marked x busy s)) (within (N cont) T rec s x cont b nm ms)
       unfolding within
       within_back true nm ms = each_back (λ s' y. rec s' y (pick nm x cont)) (λ s' y. h s' y (pick nm x cont)) ms (marked x busy s)
@@ -140,10 +140,10 @@ module _ {M : Type 0} (X : Machine M) (room : ℕ → Bool) (shows : ℕ → Boo
       look_back busy = again_back s (T.node x)
       look_back done = comes (λ y e. e)
 
-  pub emit_back : (n : ℕ) (s : Noted M) (x cont : ℕ) → Comes (Back s) (emit_noted X room shows why T n s x cont)
-  unfolding emit_noted
+  pub emit_back : (n : ℕ) (s : Traced M) (x cont : ℕ) → Comes (Back s) (emit_traced X room shows why T n s x cont)
+  unfolding emit_traced
   emit_back zero s x cont = halts
-  emit_back (suc n) s x cont = look_back x cont (λ s' y d. emit_noted X room shows why T n s' y d) (λ s' y d. emit_back n s' y d) s (X.eget s.mach x)
+  emit_back (suc n) s x cont = look_back x cont (λ s' y d. emit_traced X room shows why T n s' y d) (λ s' y d. emit_back n s' y d) s (X.eget s.mach x)
 
 -- ---- the machine of lists
 -- a mark of another kind at x, within the list or past its end

@@ -12,18 +12,18 @@ use borrow.Author.Tests.{lt-ltb, le-ltb}
 use Rattle.std.proofs.lemmas.Bool.{cases_lt}
 use Rattle.spec_c_dumper.specs.rules.Order.{Node, ignored, plain, listed, through, ptr, tdef, proto, comp, Table, Mark, new, busy, done}
 use Rattle.spec_c_dumper.specs.rules.Machine.{Out, wrote, stuck, Machine, is_zero, pick, obind, eeach, once, mention, again, close, leaf, within, begin, allowed, look, emit}
-use Rattle.spec_c_dumper.specs.origins.Causes.{Entry, entry, Noted, with_entries, up_to, always, line, cause_at, noting, emit_noted}
+use Rattle.spec_c_dumper.specs.origins.Causes.{Entry, entry, Traced, with_entries, up_to, always, line, cause_at, noting, emit_traced}
 use Rattle.spec_c_dumper.specs.origins.Claims.{forget, Numbered, Lined}
 
-abbrev size : {M : Type 0} → Noted M → ℕ
+abbrev size : {M : Type 0} → Traced M → ℕ
 size s = length s.entries
 
 module _ {M : Type 0} (Z : Type 0) where
-  pub lined_wrote : (s : Noted M) → Lined Z (size s) (λ r. wrote s) (wrote s.mach)
+  pub lined_wrote : (s : Traced M) → Lined Z (size s) (λ r. wrote s) (wrote s.mach)
   unfolding forget
   lined_wrote s = record { same = refl; need = size s; from = omega arith; fits = λ c l. refl; short = λ c l q. absurd (omega arith); counts = λ s' e. let z : size s' ≡ size s = cc in z; numbered = λ i e. (let z : ◌≡◌ {A = ℕ} 0 1 = cc in omega arith) }
 
-  abbrev out_number : ℕ → Out (Noted M) → ℕ
+  abbrev out_number : ℕ → Out (Traced M) → ℕ
   out_number d (wrote s) = d
   out_number d (stuck e) = e
 
@@ -37,7 +37,7 @@ module _ {M : Type 0} (Z : Type 0) where
   with_forget es (wrote m) = refl
   with_forget es (stuck e) = refl
 
-  with_counts : (es : List Entry) (o : Out M) (s : Noted M) → with_entries es o ≡ wrote s → size s ≡ length es
+  with_counts : (es : List Entry) (o : Out M) (s : Traced M) → with_entries es o ≡ wrote s → size s ≡ length es
   unfolding with_entries
   with_counts es (wrote m) s e = let z : size s ≡ length es = cc in z
   with_counts es (stuck c) s e = absurd (let z : ◌≡◌ {A = ℕ} 0 1 = cc in omega arith)
@@ -47,7 +47,7 @@ module _ {M : Type 0} (Z : Type 0) where
   with_no es (wrote m) h e = let z : ◌≡◌ {A = ℕ} 0 1 = cc in omega arith
   with_no es (stuck c) h e = h (ap stuck (ap (out_number 1) e))
 
-  pub line_lined : (shown : Bool) (e : Entry) (step : M → Out M) → (Z → (m : M) → step m ≡ stuck 0 → ⊥) → (s : Noted M) → Lined Z (size s) (λ r. line r shown e step s) (step s.mach)
+  pub line_lined : (shown : Bool) (e : Entry) (step : M → Out M) → (Z → (m : M) → step m ≡ stuck 0 → ⊥) → (s : Traced M) → Lined Z (size s) (λ r. line r shown e step s) (step s.mach)
   unfolding line
   line_lined false e step h s = record {
     same = with_forget s.entries (step s.mach);
@@ -62,26 +62,26 @@ module _ {M : Type 0} (Z : Type 0) where
     same = with_forget (s.entries ++ (e ∷ [])) (step s.mach);
     need = size s + 1;
     from = omega arith;
-    fits = λ c l. ap (λ (b : Bool). elim b as (λ (y : Bool). Out (Noted M)) [ true ↦ with_entries (s.entries ++ (e ∷ [])) (step s.mach) | false ↦ stuck 17 ]) (lt-ltb (size s) c (omega arith));
-    short = λ c l q. ap (λ (b : Bool). elim b as (λ (y : Bool). Out (Noted M)) [ true ↦ with_entries (s.entries ++ (e ∷ [])) (step s.mach) | false ↦ stuck 17 ]) (le-ltb (size s) c (omega arith));
+    fits = λ c l. ap (λ (b : Bool). elim b as (λ (y : Bool). Out (Traced M)) [ true ↦ with_entries (s.entries ++ (e ∷ [])) (step s.mach) | false ↦ stuck 17 ]) (lt-ltb (size s) c (omega arith));
+    short = λ c l q. ap (λ (b : Bool). elim b as (λ (y : Bool). Out (Traced M)) [ true ↦ with_entries (s.entries ++ (e ∷ [])) (step s.mach) | false ↦ stuck 17 ]) (le-ltb (size s) c (omega arith));
     counts = λ s' q. with_counts (s.entries ++ (e ∷ [])) (step s.mach) s' q ∙ length-append s.entries (e ∷ []);
     numbered = λ i. with_no (s.entries ++ (e ∷ [])) (step s.mach) (h i s.mach);
   }
 
   -- ---- one after another
-  module _ (k : ℕ) (F : (ℕ → Bool) → Out (Noted M)) (P : Out M) (h : Lined Z k F P) (g : (ℕ → Bool) → Noted M → Out (Noted M)) (p : M → Out M) (hg : (s : Noted M) → Lined Z (size s) (λ r. g r s) (p s.mach)) where
-    abbrev next : (ℕ → Bool) → Out (Noted M)
+  module _ (k : ℕ) (F : (ℕ → Bool) → Out (Traced M)) (P : Out M) (h : Lined Z k F P) (g : (ℕ → Bool) → Traced M → Out (Traced M)) (p : M → Out M) (hg : (s : Traced M) → Lined Z (size s) (λ r. g r s) (p s.mach)) where
+    abbrev next : (ℕ → Bool) → Out (Traced M)
     next r = obind (F r) (g r)
 
-    wrote_next : (r : ℕ → Bool) (s : Noted M) → F r ≡ wrote s → next r ≡ g r s
+    wrote_next : (r : ℕ → Bool) (s : Traced M) → F r ≡ wrote s → next r ≡ g r s
     unfolding obind
-    wrote_next r s e = ap (λ (o : Out (Noted M)). obind o (g r)) e
+    wrote_next r s e = ap (λ (o : Out (Traced M)). obind o (g r)) e
 
     stuck_next : (r : ℕ → Bool) (e : ℕ) → F r ≡ stuck e → next r ≡ stuck e
     unfolding obind
-    stuck_next r e q = ap (λ (o : Out (Noted M)). obind o (g r)) q
+    stuck_next r e q = ap (λ (o : Out (Traced M)). obind o (g r)) q
 
-    bind_forgets : (o : Out (Noted M)) → forget (obind o (g always)) ≡ obind (forget o) p
+    bind_forgets : (o : Out (Traced M)) → forget (obind o (g always)) ≡ obind (forget o) p
     unfolding obind forget
     bind_forgets (wrote s) = (hg s).same
     bind_forgets (stuck e) = refl
@@ -89,7 +89,7 @@ module _ {M : Type 0} (Z : Type 0) where
     plain_next : forget (next always) ≡ obind P p
     plain_next = bind_forgets (F always) ∙ ap (λ (o : Out M). obind o p) h.same
 
-    bind_by : (o : Out (Noted M)) → F always ≡ o → Lined Z k next (obind P p)
+    bind_by : (o : Out (Traced M)) → F always ≡ o → Lined Z k next (obind P p)
     bind_by (wrote s) e =
         let n : size s ≡ h.need = h.counts s e in
         let i : k ≤ h.need = h.from in
@@ -116,8 +116,8 @@ module _ {M : Type 0} (Z : Type 0) where
     pub lined_bind : Lined Z k next (obind P p)
     lined_bind = bind_by (F always) refl
 
-  module _ (f : (ℕ → Bool) → Noted M → ℕ → Out (Noted M)) (g : M → ℕ → Out M) (h : (s : Noted M) (y : ℕ) → Lined Z (size s) (λ r. f r s y) (g s.mach y)) where
-    pub each_lined : (ys : List ℕ) (s : Noted M) → Lined Z (size s) (λ r. eeach (f r) ys s) (eeach g ys s.mach)
+  module _ (f : (ℕ → Bool) → Traced M → ℕ → Out (Traced M)) (g : M → ℕ → Out M) (h : (s : Traced M) (y : ℕ) → Lined Z (size s) (λ r. f r s y) (g s.mach y)) where
+    pub each_lined : (ys : List ℕ) (s : Traced M) → Lined Z (size s) (λ r. eeach (f r) ys s) (eeach g ys s.mach)
     unfolding eeach
     each_lined [] s = lined_wrote s
     each_lined (y ∷ ys) s = lined_bind (size s) (λ r. f r s y) (g s.mach y) (h s y) (λ r. eeach (f r) ys) (eeach g ys) (λ s'. each_lined ys s')
@@ -128,13 +128,13 @@ module _ {M : Type 0} (X : Machine M) (shows : ℕ → Bool) (why : ℕ → Entr
   Z = Numbered X
 
   module _ (x cont : ℕ) where
-    abbrev N : (ℕ → Bool) → Machine (Noted M)
+    abbrev N : (ℕ → Bool) → Machine (Traced M)
     N r = noting X r shows why cont
 
-    abbrev marked : Mark → Noted M → Noted M
+    abbrev marked : Mark → Traced M → Traced M
     marked m s = record { mach = X.emark m x s.mach; entries = s.entries }
 
-    once_lined : (w : (ℕ → Bool) → Noted M → ℕ → Out (Noted M)) (w' : M → ℕ → Out M) → ((s : Noted M) → Lined Z (size s) (λ r. w r s x) (w' s.mach x)) → (b : Bool) (s : Noted M)
+    once_lined : (w : (ℕ → Bool) → Traced M → ℕ → Out (Traced M)) (w' : M → ℕ → Out M) → ((s : Traced M) → Lined Z (size s) (λ r. w r s x) (w' s.mach x)) → (b : Bool) (s : Traced M)
         → Lined Z (size s) (λ r. once (N r) T (w r) x b s) (once X T w' x b s.mach)
     unfolding once
     once_lined w w' h true s = lined_wrote Z s
@@ -142,19 +142,19 @@ module _ {M : Type 0} (X : Machine M) (shows : ℕ → Bool) (why : ℕ → Entr
         lined_bind Z (size s) (λ r. w r s x) (w' s.mach x) (h s) (λ r s'. wrote (record { mach = X.forwarded x s'.mach; entries = s'.entries })) (λ m. wrote (X.forwarded x m))
         (λ s'. lined_wrote Z (record { mach = X.forwarded x s'.mach; entries = s'.entries }))
 
-    fwd_lined : (b : Bool) (s : Noted M) → Lined Z (size s) (λ r. once (N r) T (N r).fwd_line x b s) (once X T X.fwd_line x b s.mach)
+    fwd_lined : (b : Bool) (s : Traced M) → Lined Z (size s) (λ r. once (N r) T (N r).fwd_line x b s) (once X T X.fwd_line x b s.mach)
     fwd_lined b s = once_lined (λ r. (N r).fwd_line) X.fwd_line (λ s'. line_lined Z (shows x) (entry x 2 cont) (λ m. X.fwd_line m x) (λ nz m. nz.fwd_no m x) s') b s
 
-    alias_lined : (b : Bool) (s : Noted M) → Lined Z (size s) (λ r. once (N r) T (N r).alias_line x b s) (once X T X.alias_line x b s.mach)
+    alias_lined : (b : Bool) (s : Traced M) → Lined Z (size s) (λ r. once (N r) T (N r).alias_line x b s) (once X T X.alias_line x b s.mach)
     alias_lined b s = once_lined (λ r. (N r).alias_line) X.alias_line (λ s'. line_lined Z (shows x) (cause_at 3 (why x) x cont) (λ m. X.alias_line m x) (λ nz m. nz.alias_no m x) s') b s
 
-    mention_lined : (b nm : Bool) (s : Noted M) → Lined Z (size s) (λ r. mention (N r) T b nm x s) (mention X T b nm x s.mach)
+    mention_lined : (b nm : Bool) (s : Traced M) → Lined Z (size s) (λ r. mention (N r) T b nm x s) (mention X T b nm x s.mach)
     unfolding mention
     mention_lined true nm s = lined_wrote Z s
     mention_lined false true s = fwd_lined false s
     mention_lined false false s = lined_stuck Z (size s) 12
 
-    again_lined : (s : Noted M) (nd : Node) → Lined Z (size s) (λ r. again (N r) T s x cont nd) (again X T s.mach x cont nd)
+    again_lined : (s : Traced M) (nd : Node) → Lined Z (size s) (λ r. again (N r) T s x cont nd) (again X T s.mach x cont nd)
     unfolding again
     again_lined s ignored = lined_wrote Z s
     again_lined s plain = lined_wrote Z s
@@ -165,20 +165,20 @@ module _ {M : Type 0} (X : Machine M) (shows : ℕ → Bool) (why : ℕ → Entr
     again_lined s (proto ts) = lined_wrote Z s
     again_lined s (comp ms) = mention_lined (X.has_fwd s.mach x || eqb x cont) (T.named x) s
 
-    close_lined : (top : Bool) (s : Noted M) → Lined Z (size s) (λ r. close (N r) T top x s) (close X T top x s.mach)
+    close_lined : (top : Bool) (s : Traced M) → Lined Z (size s) (λ r. close (N r) T top x s) (close X T top x s.mach)
     unfolding close
     close_lined true s =
         lined_bind Z (size s) (λ r. (N r).body s x) (X.body s.mach x) (line_lined Z true (why x) (λ m. X.body m x) (λ nz m. nz.body_no m x) s) (λ r s'. wrote (marked done s')) (λ m. wrote (X.emark done x m)) (λ s'. lined_wrote Z (marked done s'))
     close_lined false s = lined_wrote Z (marked new s)
 
-    leaf_lined : (b : Bool) (s : Noted M) → Lined Z (size s) (λ r. leaf (N r) T b x s) (leaf X T b x s.mach)
+    leaf_lined : (b : Bool) (s : Traced M) → Lined Z (size s) (λ r. leaf (N r) T b x s) (leaf X T b x s.mach)
     unfolding leaf
     leaf_lined true s =
         lined_bind Z (size s) (λ r. (N r).leaf_line s x) (X.leaf_line s.mach x) (line_lined Z true (cause_at 2 (why x) x cont) (λ m. X.leaf_line m x) (λ nz m. nz.leaf_no m x) s) (λ r s'. wrote (marked done s')) (λ m. wrote (X.emark done x m))
         (λ s'. lined_wrote Z (marked done s'))
     leaf_lined false s = lined_wrote Z (marked done s)
 
-    module _ (rec : (ℕ → Bool) → Noted M → ℕ → ℕ → Out (Noted M)) (rec' : M → ℕ → ℕ → Out M) (h : (s : Noted M) (y c : ℕ) → Lined Z (size s) (λ r. rec r s y c) (rec' s.mach y c)) (s : Noted M) where
+    module _ (rec : (ℕ → Bool) → Traced M → ℕ → ℕ → Out (Traced M)) (rec' : M → ℕ → ℕ → Out M) (h : (s : Traced M) (y c : ℕ) → Lined Z (size s) (λ r. rec r s y c) (rec' s.mach y c)) (s : Traced M) where
       within_lined : (b nm : Bool) (ms : List ℕ) → Lined Z (size s) (λ r. within (N r) T (rec r) s x cont b nm ms) (within X T rec' s.mach x cont b nm ms)
       unfolding within
       within_lined true nm ms = each_lined Z (λ r s' y. rec r s' y (pick nm x cont)) (λ m y. rec' m y (pick nm x cont)) (λ s' y. h s' y (pick nm x cont)) ms (marked busy s)
@@ -214,7 +214,7 @@ module _ {M : Type 0} (X : Machine M) (shows : ℕ → Bool) (why : ℕ → Entr
       look_lined done = lined_wrote Z s
 
   -- THE THEOREM of emission
-  pub emit_lined : (n : ℕ) (s : Noted M) (x cont : ℕ) → Lined Z (size s) (λ r. emit_noted X r shows why T n s x cont) (emit X T n s.mach x cont)
-  unfolding emit_noted emit
+  pub emit_lined : (n : ℕ) (s : Traced M) (x cont : ℕ) → Lined Z (size s) (λ r. emit_traced X r shows why T n s x cont) (emit X T n s.mach x cont)
+  unfolding emit_traced emit
   emit_lined zero s x cont = lined_stuck Z (size s) 11
-  emit_lined (suc n) s x cont = look_lined x cont (λ r s' y c. emit_noted X r shows why T n s' y c) (λ m y c. emit X T n m y c) (λ s' y c. emit_lined n s' y c) s (X.eget s.mach x)
+  emit_lined (suc n) s x cont = look_lined x cont (λ r s' y c. emit_traced X r shows why T n s' y c) (λ m y c. emit X T n m y c) (λ s' y c. emit_lined n s' y c) s (X.eget s.mach x)

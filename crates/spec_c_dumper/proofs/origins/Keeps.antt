@@ -11,7 +11,7 @@ use Rattle.spec_c_dumper.specs.rules.Order.{Node, ignored, plain, listed, throug
 use Rattle.spec_c_dumper.specs.rules.Machine.{Out, wrote, stuck, Machine, is_zero, obind, eeach, once, mention, again, close, leaf, within, begin, allowed, look}
 use Rattle.spec_c_dumper.specs.needs.Needs.{kids}
 use Rattle.spec_c_dumper.specs.needs.Bodies.{is_leaf}
-use Rattle.spec_c_dumper.specs.origins.Causes.{Entry, Noted, noting, emit_noted}
+use Rattle.spec_c_dumper.specs.origins.Causes.{Entry, Traced, noting, emit_traced}
 use Rattle.spec_c_dumper.specs.origins.Claims.{first, next, is_listed}
 use Rattle.spec_c_dumper.specs.origins.Lines.{is_typedef, is_container, Container, outer, inner, Inside}
 
@@ -33,38 +33,38 @@ zero_no : (n : ℕ) → n ≢ 0 → is_zero n ≡ false
 zero_no zero h = absurd (h refl)
 zero_no (suc n) h = refl
 
-module _ {M : Type 0} (X : Machine M) (room : ℕ → Bool) (shows : ℕ → Bool) (why : ℕ → Entry) (T : Table) (Top : ℕ → Type 0) (R : Noted M → Noted M → Type 0) where
-  abbrev N : ℕ → Machine (Noted M)
+module _ {M : Type 0} (X : Machine M) (room : ℕ → Bool) (shows : ℕ → Bool) (why : ℕ → Entry) (T : Table) (Top : ℕ → Type 0) (R : Traced M → Traced M → Type 0) where
+  abbrev N : ℕ → Machine (Traced M)
   N cont = noting X room shows why cont
 
   -- A relation between the states before and after, that the steps keep. A line is of a type of its kind, inside its container or at the top.
   pub record Kept : Type 0 where
-    pub r_same : (s : Noted M) → R s s
-    pub r_then : (a b c : Noted M) → R a b → R b c → R a c
-    pub r_mark : (m : Mark) (x : ℕ) (s : Noted M) → R s (record { mach = X.emark m x s.mach; entries = s.entries })
-    pub r_flag : (x : ℕ) (s : Noted M) → R s (record { mach = X.forwarded x s.mach; entries = s.entries })
-    pub r_fwd : (cont x : ℕ) (s : Noted M) → is_comp (T.node x) ≡ true → Inside T Top cont x → Comes (R s) ((N cont).fwd_line s x)
-    pub r_alias : (cont x : ℕ) (s : Noted M) → is_typedef (T.node x) ≡ true → Inside T Top cont x → Comes (R s) ((N cont).alias_line s x)
-    pub r_leaf : (cont x : ℕ) (s : Noted M) → is_leaf (T.node x) ≡ true → Inside T Top cont x → Comes (R s) ((N cont).leaf_line s x)
-    pub top_alias : (x : ℕ) (s : Noted M) → is_typedef (T.node x) ≡ true → Top x → Comes (R s) ((N 0).alias_line s x)
-    pub top_leaf : (x : ℕ) (s : Noted M) → is_leaf (T.node x) ≡ true → Top x → Comes (R s) ((N 0).leaf_line s x)
-    pub top_body : (x : ℕ) (s : Noted M) → is_comp (T.node x) ≡ true → Top x → Comes (R s) ((N 0).body s x)
+    pub r_same : (s : Traced M) → R s s
+    pub r_then : (a b c : Traced M) → R a b → R b c → R a c
+    pub r_mark : (m : Mark) (x : ℕ) (s : Traced M) → R s (record { mach = X.emark m x s.mach; entries = s.entries })
+    pub r_flag : (x : ℕ) (s : Traced M) → R s (record { mach = X.forwarded x s.mach; entries = s.entries })
+    pub r_fwd : (cont x : ℕ) (s : Traced M) → is_comp (T.node x) ≡ true → Inside T Top cont x → Comes (R s) ((N cont).fwd_line s x)
+    pub r_alias : (cont x : ℕ) (s : Traced M) → is_typedef (T.node x) ≡ true → Inside T Top cont x → Comes (R s) ((N cont).alias_line s x)
+    pub r_leaf : (cont x : ℕ) (s : Traced M) → is_leaf (T.node x) ≡ true → Inside T Top cont x → Comes (R s) ((N cont).leaf_line s x)
+    pub top_alias : (x : ℕ) (s : Traced M) → is_typedef (T.node x) ≡ true → Top x → Comes (R s) ((N 0).alias_line s x)
+    pub top_leaf : (x : ℕ) (s : Traced M) → is_leaf (T.node x) ≡ true → Top x → Comes (R s) ((N 0).leaf_line s x)
+    pub top_body : (x : ℕ) (s : Traced M) → is_comp (T.node x) ≡ true → Top x → Comes (R s) ((N 0).body s x)
 
   module _ (void : T.node 0 ≡ plain) (k : Kept) where
-    each_keeps : (f : Noted M → ℕ → Out (Noted M)) (ys : List ℕ) → ((s : Noted M) (y : ℕ) → Memᴰ y ys → Comes (R s) (f s y)) → (s : Noted M) → Comes (R s) (eeach f ys s)
+    each_keeps : (f : Traced M → ℕ → Out (Traced M)) (ys : List ℕ) → ((s : Traced M) (y : ℕ) → Memᴰ y ys → Comes (R s) (f s y)) → (s : Traced M) → Comes (R s) (eeach f ys s)
     unfolding eeach
     each_keeps f [] h s = comes (k.r_same s)
     each_keeps f (y ∷ ys) h s = comes_bind (eeach f ys) (h s y (Memᴰ.head refl)) (λ s' q. comes_map (λ s'' q'. k.r_then s s' s'' q q') (each_keeps f ys (λ s'' z m. h s'' z (Memᴰ.tail m)) s'))
 
     -- a state, and then a step from it
-    step_on : (a s : Noted M) (o : Out (Noted M)) → R a s → Comes (R s) o → Comes (R a) o
+    step_on : (a s : Traced M) (o : Out (Traced M)) → R a s → Comes (R s) o → Comes (R a) o
     step_on a s o q h = comes_map (λ s' q'. k.r_then a s s' q q') h
 
     -- void is no container
     not_void : (x : ℕ) (nd : Node) → T.node x ≡ nd → (plain ≡ nd → ⊥) → x ≢ 0
     not_void x nd e h z = h (sym void ∙ ap (λ (y : ℕ). T.node y) (sym z) ∙ e)
 
-    abbrev marked : ℕ → Mark → Noted M → Noted M
+    abbrev marked : ℕ → Mark → Traced M → Traced M
     marked x m s = record { mach = X.emark m x s.mach; entries = s.entries }
 
     abbrev member : (x y : ℕ) (nd : Node) → T.node x ≡ nd → Memᴰ y (kids nd) → Memᴰ y (kids (T.node x))
@@ -76,17 +76,17 @@ module _ {M : Type 0} (X : Machine M) (room : ℕ → Bool) (shows : ℕ → Boo
     comp_inside : (x y : ℕ) (ms : List ℕ) → T.node x ≡ comp ms → T.named x ≡ true → Top x → Memᴰ y ms → Inside T Top x y
     comp_inside x y ms e q tp m = record { some = not_void x (comp ms) e (λ (q : plain ≡ comp ms). let z : ◌≡◌ {A = ℕ} 0 1 = cc in omega arith); contained = ap (λ (n : Node). is_container n (T.named x)) e ∙ q; within = outer x tp; leads = first y (member x y (comp ms) e m) }
 
-    once_keeps : (cont x : ℕ) (w : Noted M → ℕ → Out (Noted M)) → ((s : Noted M) → Comes (R s) (w s x)) → (b : Bool) (s : Noted M) → Comes (R s) (once (N cont) T w x b s)
+    once_keeps : (cont x : ℕ) (w : Traced M → ℕ → Out (Traced M)) → ((s : Traced M) → Comes (R s) (w s x)) → (b : Bool) (s : Traced M) → Comes (R s) (once (N cont) T w x b s)
     unfolding once
     once_keeps cont x w h true s = comes (k.r_same s)
     once_keeps cont x w h false s =
         comes_bind (λ s'. wrote (record { mach = X.forwarded x s'.mach; entries = s'.entries })) (h s) (λ s' q. comes (k.r_then s s' (record { mach = X.forwarded x s'.mach; entries = s'.entries }) q (k.r_flag x s')))
 
-    marks_after : (x : ℕ) (m : Mark) (s s' : Noted M) → R s s' → Comes (R s) (wrote (marked x m s'))
+    marks_after : (x : ℕ) (m : Mark) (s s' : Traced M) → R s s' → Comes (R s) (wrote (marked x m s'))
     marks_after x m s s' q = comes (k.r_then s s' (marked x m s') q (k.r_mark m x s'))
 
     -- a typedef: its target inside it, its line, its mark
-    tdef_keeps : (cont x t : ℕ) (s : Noted M) (o : Out (Noted M)) → Comes (R (marked x busy s)) o → ((u : Noted M) → Comes (R u) ((N cont).alias_line u x))
+    tdef_keeps : (cont x t : ℕ) (s : Traced M) (o : Out (Traced M)) → Comes (R (marked x busy s)) o → ((u : Traced M) → Comes (R u) ((N cont).alias_line u x))
         → Comes (R s) (obind o (λ s'. obind (once (N cont) T (N cont).alias_line x (X.has_fwd s'.mach x) s') (λ s''. wrote (marked x done s''))))
     tdef_keeps cont x t s o h w =
         comes_bind (λ s'. obind (once (N cont) T (N cont).alias_line x (X.has_fwd s'.mach x) s') (λ s''. wrote (marked x done s''))) (step_on s (marked x busy s) o (k.r_mark busy x s) h) (λ s' q.
@@ -95,13 +95,13 @@ module _ {M : Type 0} (X : Machine M) (room : ℕ → Bool) (shows : ℕ → Boo
 
     -- ---- inside a container
     module _ (cont x : ℕ) (c : Inside T Top cont x) where
-      mention_keeps : is_comp (T.node x) ≡ true → (b nm : Bool) (s : Noted M) → Comes (R s) (mention (N cont) T b nm x s)
+      mention_keeps : is_comp (T.node x) ≡ true → (b nm : Bool) (s : Traced M) → Comes (R s) (mention (N cont) T b nm x s)
       unfolding mention
       mention_keeps i true nm s = comes (k.r_same s)
       mention_keeps i false true s = once_keeps cont x (N cont).fwd_line (λ s'. k.r_fwd cont x s' i c) false s
       mention_keeps i false false s = halts
 
-      again_keeps : (s : Noted M) (nd : Node) → T.node x ≡ nd → Comes (R s) (again (N cont) T s x cont nd)
+      again_keeps : (s : Traced M) (nd : Node) → T.node x ≡ nd → Comes (R s) (again (N cont) T s x cont nd)
       unfolding again
       again_keeps s ignored e = comes (k.r_same s)
       again_keeps s plain e = comes (k.r_same s)
@@ -112,7 +112,7 @@ module _ {M : Type 0} (X : Machine M) (room : ℕ → Bool) (shows : ℕ → Boo
       again_keeps s (proto ts) e = comes (k.r_same s)
       again_keeps s (comp ms) e = mention_keeps (ap is_comp e) (X.has_fwd s.mach x || eqb x cont) (T.named x) s
 
-      leaf_keeps : is_leaf (T.node x) ≡ true → (b : Bool) (s : Noted M) → Comes (R s) (leaf (N cont) T b x s)
+      leaf_keeps : is_leaf (T.node x) ≡ true → (b : Bool) (s : Traced M) → Comes (R s) (leaf (N cont) T b x s)
       unfolding leaf
       leaf_keeps i true s = comes_bind (λ s'. wrote (marked x done s')) (k.r_leaf cont x s i c) (λ s' q. marks_after x done s s' q)
       leaf_keeps i false s = comes (k.r_mark done x s)
@@ -121,7 +121,7 @@ module _ {M : Type 0} (X : Machine M) (room : ℕ → Bool) (shows : ℕ → Boo
       down : (nd : Node) → T.node x ≡ nd → (y : ℕ) → is_container nd (T.named x) ≡ false → Memᴰ y (kids nd) → Inside T Top cont y
       down nd e y q m = record { some = c.some; contained = c.contained; within = c.within; leads = next x y c.leads (ap (λ (n : Node). is_container n (T.named x)) e ∙ q) (member x y nd e m) }
 
-      module _ (rec : Noted M → ℕ → ℕ → Out (Noted M)) (h : (s : Noted M) (y d : ℕ) → Inside T Top d y → Comes (R s) (rec s y d)) (s : Noted M) where
+      module _ (rec : Traced M → ℕ → ℕ → Out (Traced M)) (h : (s : Traced M) (y d : ℕ) → Inside T Top d y → Comes (R s) (rec s y d)) (s : Traced M) where
         -- a nameless composite has its members in the same container, a named one is mentioned
         within_keeps : (nm : Bool) (ms : List ℕ) → T.named x ≡ nm → T.node x ≡ comp ms → Comes (R s) (within (N cont) T rec s x cont (not nm) nm ms)
         unfolding within
@@ -153,13 +153,13 @@ module _ {M : Type 0} (X : Machine M) (room : ℕ → Bool) (shows : ℕ → Boo
         look_keeps busy = again_keeps s (T.node x) refl
         look_keeps done = comes (k.r_same s)
 
-    pub emit_keeps : (n : ℕ) (s : Noted M) (x cont : ℕ) → Inside T Top cont x → Comes (R s) (emit_noted X room shows why T n s x cont)
-    unfolding emit_noted
+    pub emit_keeps : (n : ℕ) (s : Traced M) (x cont : ℕ) → Inside T Top cont x → Comes (R s) (emit_traced X room shows why T n s x cont)
+    unfolding emit_traced
     emit_keeps zero s x cont c = halts
-    emit_keeps (suc n) s x cont c = look_keeps cont x c (λ s' y d. emit_noted X room shows why T n s' y d) (λ s' y d q. emit_keeps n s' y d q) s (X.eget s.mach x)
+    emit_keeps (suc n) s x cont c = look_keeps cont x c (λ s' y d. emit_traced X room shows why T n s' y d) (λ s' y d q. emit_keeps n s' y d q) s (X.eget s.mach x)
 
     -- ---- at the top
-    module _ (x : ℕ) (tp : Top x) (rec : Noted M → ℕ → ℕ → Out (Noted M)) (h : (s : Noted M) (y d : ℕ) → Inside T Top d y → Comes (R s) (rec s y d)) (s : Noted M) where
+    module _ (x : ℕ) (tp : Top x) (rec : Traced M → ℕ → ℕ → Out (Traced M)) (h : (s : Traced M) (y d : ℕ) → Inside T Top d y → Comes (R s) (rec s y d)) (s : Traced M) where
       leaf_top : is_leaf (T.node x) ≡ true → (b : Bool) → Comes (R s) (leaf (N 0) T b x s)
       unfolding leaf
       leaf_top i true = comes_bind (λ s'. wrote (marked x done s')) (k.top_leaf x s i tp) (λ s' q. marks_after x done s s' q)
@@ -171,7 +171,7 @@ module _ {M : Type 0} (X : Machine M) (room : ℕ → Bool) (shows : ℕ → Boo
       members_top true ms q z e =
           step_on s (marked x busy s) (eeach (λ s' y. rec s' y x) ms (marked x busy s)) (k.r_mark busy x s) (each_keeps (λ s' y. rec s' y x) ms (λ s' y m. h s' y x (comp_inside x y ms e q tp m)) (marked x busy s))
 
-      close_top : is_comp (T.node x) ≡ true → (s' : Noted M) → R s s' → Comes (R s) (close (N 0) T true x s')
+      close_top : is_comp (T.node x) ≡ true → (s' : Traced M) → R s s' → Comes (R s) (close (N 0) T true x s')
       unfolding close
       close_top i s' q = comes_bind (λ s''. wrote (marked x done s'')) (step_on s s' ((N 0).body s' x) q (k.top_body x s' i tp)) (λ s'' q'. marks_after x done s s'' q')
 
@@ -197,7 +197,7 @@ module _ {M : Type 0} (X : Machine M) (room : ℕ → Bool) (shows : ℕ → Boo
       look_top l busy q = absurd (q refl)
       look_top l done q = comes (k.r_same s)
 
-    pub emit_top : (n : ℕ) (s : Noted M) (x : ℕ) → Top x → is_listed (T.node x) ≡ true → X.eget s.mach x ≢ busy → Comes (R s) (emit_noted X room shows why T n s x 0)
-    unfolding emit_noted
+    pub emit_top : (n : ℕ) (s : Traced M) (x : ℕ) → Top x → is_listed (T.node x) ≡ true → X.eget s.mach x ≢ busy → Comes (R s) (emit_traced X room shows why T n s x 0)
+    unfolding emit_traced
     emit_top zero s x tp l q = halts
-    emit_top (suc n) s x tp l q = look_top x tp (λ s' y d. emit_noted X room shows why T n s' y d) (λ s' y d c. emit_keeps n s' y d c) s l (X.eget s.mach x) q
+    emit_top (suc n) s x tp l q = look_top x tp (λ s' y d. emit_traced X room shows why T n s' y d) (λ s' y d c. emit_keeps n s' y d c) s l (X.eget s.mach x) q

@@ -21,11 +21,11 @@ use Rattle.spec_c_dumper.specs.rules.Decl.{emit_composite_fwd, emit_fwd_def, enu
 use Rattle.spec_c_dumper.specs.rules.Emit.{line_end, definition, shown, forward}
 use Rattle.spec_c_dumper.specs.needs.Lists.{Piece, defines, other, cannot, Ls, put_line}
 use Rattle.spec_c_dumper.specs.needs.Session.{Known, fitting, line_of, lines_by, machine_by, text_of}
-use Rattle.spec_c_dumper.specs.origins.Causes.{Entry, entry, led_by, Led, led_store, order_led, leader_of, listed_entry, Noted, with_entries, line, cause_at, noting, emit_noted, shows_in, always, Explaining, untold, dropped, emitted_noted, each_listed, ordered_noted, gate_noted, single_noted, onward_noted, list_noted, from_noted, every_noted}
+use Rattle.spec_c_dumper.specs.origins.Causes.{Entry, entry, led_by, WithLeaders, leader_store, order_with_leaders, leader_of, listed_entry, Traced, with_entries, line, cause_at, noting, emit_traced, shows_in, always, Explaining, untold, dropped, emitted_traced, each_listed, ordered_traced, gate_traced, single_traced, onward_traced, list_traced, from_traced, every_traced}
 use Rattle.spec_c_dumper.specs.origins.Claims.{itself, is_listed, LedTo, Numbered}
-use Rattle.spec_c_dumper.specs.origins.Lines.{is_typedef, is_forward, Ended, writer_of, piece_of, Pairs, none, more, blank, Grown, noted_ids, Inside, Caused, requested, needed, forwarded, early, notes_of, led_for, Turns, no_turn, turn}
+use Rattle.spec_c_dumper.specs.origins.Lines.{is_typedef, is_forward, Ended, writer_of, piece_of, Pairs, none, more, blank, Grown, listed_ids, Inside, Caused, requested, needed, forwarded, early, notes_of, leaders_for, Turns, no_turn, turn}
 use Rattle.spec_c_dumper.specs.origins.Causes.{ids_from}
-use Rattle.spec_c_dumper.proofs.origins.Ordering.{Holds, holds, none as nothing_held, Around, outermost, AllLed, order_keeps, push_led, ids_append, first_led, first_noted, NotNone, stopped, order_not}
+use Rattle.spec_c_dumper.proofs.origins.Ordering.{Holds, holds, none as nothing_held, Around, outermost, AllLedTo, order_keeps, push_leader, ids_append, first_led_to, first_is_leader, NotNone, stopped, order_not}
 use Rattle.spec_c_dumper.proofs.origins.Emission.{emit_lined, each_lined}
 use Rattle.spec_c_dumper.proofs.origins.Requests.{single_fits}
 use Rattle.spec_c_dumper.proofs.origins.Numbered.{machine_numbered}
@@ -200,13 +200,13 @@ module _ {U : Type 0} (N : Naming U) (B : Btf) where
     line_put : Comes (Put mk w s) (put_line mk s (line_of s.room s.known.text_len (w s.known.names)))
     line_put = said_put s.room s.known.text_len (w s.known.names) refl
 
-  with_comes : {M : Type 0} {Q : M → Type 0} (es : List Entry) (o : Out M) → Comes Q o → Comes (λ (s : Noted M). (s.entries ≡ es) × Q s.mach) (with_entries es o)
+  with_comes : {M : Type 0} {Q : M → Type 0} (es : List Entry) (o : Out M) → Comes Q o → Comes (λ (s : Traced M). (s.entries ≡ es) × Q s.mach) (with_entries es o)
   unfolding with_entries
   with_comes es _ (comes h) = comes (refl, h)
   with_comes es _ halts = halts
 
   module _ (Why : Entry → Type 0) where
-    abbrev pub Grew : Noted (Ls (Known U)) → Noted (Ls (Known U)) → Type 0
+    abbrev pub Grew : Traced (Ls (Known U)) → Traced (Ls (Known U)) → Type 0
     Grew s s' = Grown N B Why s.mach.known.names s'.mach.known.names s.entries s'.entries s.mach.pieces s'.mach.pieces
 
     grew_same : (u : U) (es : List Entry) (ps : List Piece) → Grown N B Why u u es es ps ps
@@ -226,13 +226,13 @@ module _ {U : Type 0} (N : Naming U) (B : Btf) where
       pairs = pairs_append g.pairs h.pairs;
     }
 
-    pub grown_same : (s : Noted (Ls (Known U))) → Grew s s
+    pub grown_same : (s : Traced (Ls (Known U))) → Grew s s
     grown_same s = grew_same s.mach.known.names s.entries s.mach.pieces
 
-    pub grown_then : (a b c : Noted (Ls (Known U))) → Grew a b → Grew b c → Grew a c
+    pub grown_then : (a b c : Traced (Ls (Known U))) → Grew a b → Grew b c → Grew a c
     grown_then a b c g h = grew_then a.mach.known.names b.mach.known.names c.mach.known.names a.entries b.entries c.entries a.mach.pieces b.mach.pieces c.mach.pieces g h
 
-    module _ (room : ℕ → Bool) (x c l : ℕ) (w : Why (entry x c l)) (s : Noted (Ls (Known U))) where
+    module _ (room : ℕ → Bool) (x c l : ℕ) (w : Why (entry x c l)) (s : Traced (Ls (Known U))) where
       abbrev ty : BtfType
       ty = B.type_by_id x
 
@@ -241,7 +241,7 @@ module _ {U : Type 0} (N : Naming U) (B : Btf) where
 
       -- the entry and its piece
       grew_line : (mk : List ℕ → Piece) (v : Writer U) → v ≡ writer_of N B e → ((t : List ℕ) → piece_of N B e t ≡ mk t) → ((u u' : U) (t : List ℕ) → v u ≡ said u' (whole t) → Ended t)
-          → (s' : Noted (Ls (Known U))) → (s'.entries ≡ s.entries ++ (e ∷ [])) × Put mk v s.mach s'.mach → Grew s s'
+          → (s' : Traced (Ls (Known U))) → (s'.entries ≡ s.entries ++ (e ∷ [])) × Put mk v s.mach s'.mach → Grew s s'
       grew_line mk v i k f s' h =
           let p : Put mk v s.mach s'.mach = h.1 in
           record {
@@ -264,7 +264,7 @@ module _ {U : Type 0} (N : Naming U) (B : Btf) where
           by false = halts
 
       -- a forward line or a typedef that prints nothing is none
-      grew_blank : builtin (name_of ty) ≡ true → (s' : Noted (Ls (Known U))) → (s'.entries ≡ s.entries) × Put other (forward N B x ty) s.mach s'.mach → Grew s s'
+      grew_blank : builtin (name_of ty) ≡ true → (s' : Traced (Ls (Known U))) → (s'.entries ≡ s.entries) × Put other (forward N B x ty) s.mach s'.mach → Grew s s'
       grew_blank b s' h =
           let p : Put other (forward N B x ty) s.mach s'.mach = h.1 in
           let z : (p.text ≡ []) × (s.mach.known.names ≡ s'.mach.known.names) = forward_none N B x c s.mach.known.names s'.mach.known.names p.text ty b p.is in
@@ -298,29 +298,29 @@ module _ {U : Type 0} (N : Naming U) (B : Btf) where
           (λ u u' t h. definition_ends N B x c u u' t ty i h)
 
 -- ---- the lines of a request. led: the notes of its ordering
-module _ {U : Type 0} (N : Naming U) (B : Btf) (void : (table_of B).node 0 ≡ plain) (room : ℕ → Bool) (req : ℕ) (led : List (ℕ × ℕ)) (all_led : (p : ℕ × ℕ) → Memᴰ p led → LedTo (table_of B) req p.0 p.1) where
+module _ {U : Type 0} (N : Naming U) (B : Btf) (void : (table_of B).node 0 ≡ plain) (room : ℕ → Bool) (req : ℕ) (leaders : List (ℕ × ℕ)) (all_led_to : (p : ℕ × ℕ) → Memᴰ p leaders → LedTo (table_of B) req p.0 p.1) where
   abbrev T : Table
   T = table_of B
 
   abbrev why : ℕ → Entry
-  why = listed_entry req led
+  why = listed_entry req leaders
 
   abbrev Why : Entry → Type 0
-  Why = Caused T req led
+  Why = Caused T req leaders
 
   abbrev Top : ℕ → Type 0
-  Top x = Memᴰ x (noted_ids led)
+  Top x = Memᴰ x (listed_ids leaders)
 
   -- the entry of a listed id
-  listed_by : (P : Entry → Type 0) (x : ℕ) → Top x → (Why (entry x 0 x) → P (entry x 0 x)) → (Why (entry x 1 (leader_of req led x)) → P (entry x 1 (leader_of req led x))) → P (why x)
+  listed_by : (P : Entry → Type 0) (x : ℕ) → Top x → (Why (entry x 0 x) → P (entry x 0 x)) → (Why (entry x 1 (leader_of req leaders x)) → P (entry x 1 (leader_of req leaders x))) → P (why x)
   unfolding listed_entry
   listed_by P x m f g = by (eqb x req) refl
     where
-      by : (b : Bool) → eqb x req ≡ b → P (elim b [ true ↦ entry x 0 x | false ↦ entry x 1 (leader_of req led x) ])
+      by : (b : Bool) → eqb x req ≡ b → P (elim b [ true ↦ entry x 0 x | false ↦ entry x 1 (leader_of req leaders x) ])
       by true e = let q : x ≡ req = eqb-true x req e in f (subst (λ (y : ℕ). Why (entry y 0 y)) (sym q) (requested (subst Top q m)))
-      by false e = g (needed x (leader_of req led x) (eqb-false x req e) (first_noted req led x m) (first_led T req led all_led x m))
+      by false e = g (needed x (leader_of req leaders x) (eqb-false x req e) (first_is_leader req leaders x m) (first_led_to T req leaders all_led_to x m))
 
-  module _ (x : ℕ) (s : Noted (Ls (Known U))) where
+  module _ (x : ℕ) (s : Traced (Ls (Known U))) where
     abbrev nd : Node
     nd = node_of (B.type_by_id x)
 
@@ -337,7 +337,7 @@ module _ {U : Type 0} (N : Naming U) (B : Btf) (void : (table_of B).node 0 ≡ p
 
     alias_top : is_typedef nd ≡ true → Top x → Comes (Grew N B Why s) ((noting (machine_by N B) room (shows_in B) why 0).alias_line s x)
     unfolding cause_at
-    alias_top i m = listed_by (λ (e : Entry). Comes (Grew N B Why s) (line room (shows_in B x) e (λ m'. (machine_by N B).alias_line m' x) s)) x m (alias_by 0 x i) (alias_by 1 (leader_of req led x) i)
+    alias_top i m = listed_by (λ (e : Entry). Comes (Grew N B Why s) (line room (shows_in B x) e (λ m'. (machine_by N B).alias_line m' x) s)) x m (alias_by 0 x i) (alias_by 1 (leader_of req leaders x) i)
 
     leaf_by : (c l : ℕ) → is_leaf nd ≡ true → Why (entry x c l) → Comes (Grew N B Why s) (line room true (entry x c l) (λ m. (machine_by N B).leaf_line m x) s)
     leaf_by c l i w =
@@ -351,7 +351,7 @@ module _ {U : Type 0} (N : Naming U) (B : Btf) (void : (table_of B).node 0 ≡ p
 
     leaf_top : is_leaf nd ≡ true → Top x → Comes (Grew N B Why s) ((noting (machine_by N B) room (shows_in B) why 0).leaf_line s x)
     unfolding cause_at
-    leaf_top i m = listed_by (λ (e : Entry). Comes (Grew N B Why s) (line room true e (λ m'. (machine_by N B).leaf_line m' x) s)) x m (leaf_by 0 x i) (leaf_by 1 (leader_of req led x) i)
+    leaf_top i m = listed_by (λ (e : Entry). Comes (Grew N B Why s) (line room true e (λ m'. (machine_by N B).leaf_line m' x) s)) x m (leaf_by 0 x i) (leaf_by 1 (leader_of req leaders x) i)
 
     body_by : (c l : ℕ) → eqb c 2 ≡ false → is_comp nd ≡ true → Why (entry x c l) → Comes (Grew N B Why s) (line room true (entry x c l) (λ m. (machine_by N B).body m x) s)
     body_by c l z i w =
@@ -359,7 +359,7 @@ module _ {U : Type 0} (N : Naming U) (B : Btf) (void : (table_of B).node 0 ≡ p
         (λ t. ap (λ (b : Bool). elim (b && not (eqb c 2)) as (λ (y : Bool). Piece) [ true ↦ defines x t | false ↦ other t ]) i ∙ ap (λ (b : Bool). elim (not b) as (λ (y : Bool). Piece) [ true ↦ defines x t | false ↦ other t ]) z)
 
     body_top : is_comp nd ≡ true → Top x → Comes (Grew N B Why s) (line room true (why x) (λ m. (machine_by N B).body m x) s)
-    body_top i m = listed_by (λ (e : Entry). Comes (Grew N B Why s) (line room true e (λ m'. (machine_by N B).body m' x) s)) x m (body_by 0 x refl i) (body_by 1 (leader_of req led x) refl i)
+    body_top i m = listed_by (λ (e : Entry). Comes (Grew N B Why s) (line room true e (λ m'. (machine_by N B).body m' x) s)) x m (body_by 0 x refl i) (body_by 1 (leader_of req leaders x) refl i)
 
   kept : Kept (machine_by N B) room (shows_in B) why T Top (Grew N B Why)
   kept = record {
@@ -376,18 +376,18 @@ module _ {U : Type 0} (N : Naming U) (B : Btf) (void : (table_of B).node 0 ≡ p
   }
 
   -- the listed ids, where nothing is in progress
-  abbrev run : Noted (Ls (Known U)) → ℕ → Out (Noted (Ls (Known U)))
-  run m y = emit_noted (machine_by N B) room (shows_in B) why T 512 m y 0
+  abbrev run : Traced (Ls (Known U)) → ℕ → Out (Traced (Ls (Known U)))
+  run m y = emit_traced (machine_by N B) room (shows_in B) why T 512 m y 0
 
   kind_of : (x : ℕ) → Top x → is_listed (T.node x) ≡ true
-  kind_of x m = (first_led T req led all_led x m).is_listed_lem
+  kind_of x m = (first_led_to T req leaders all_led_to x m).is_listed_lem
 
-  one_top : (s : Noted (Ls (Known U))) → Idle s.mach → (y : ℕ) → Top y → Comes (λ s'. Grew N B Why s s' × Idle s'.mach) (run s y)
+  one_top : (s : Traced (Ls (Known U))) → Idle s.mach → (y : ℕ) → Top y → Comes (λ s'. Grew N B Why s s' × Idle s'.mach) (run s y)
   one_top s i y m =
       comes_both (emit_top (machine_by N B) room (shows_in B) why T Top (Grew N B Why) void kept 512 s y m (kind_of y m) (i y))
       (comes_map (λ s' (q : Back (machine_by N B) room (shows_in B) why T (list_turns (lines_by N B)) s s'). λ z e. i z (q z e)) (emit_back (machine_by N B) room (shows_in B) why T (list_turns (lines_by N B)) 512 s y 0))
 
-  listed_grew : (ys : List ℕ) → ((y : ℕ) → Memᴰ y ys → Top y) → (s : Noted (Ls (Known U))) → Idle s.mach → Comes (λ s'. Grew N B Why s s' × Idle s'.mach) (eeach run ys s)
+  listed_grew : (ys : List ℕ) → ((y : ℕ) → Memᴰ y ys → Top y) → (s : Traced (Ls (Known U))) → Idle s.mach → Comes (λ s'. Grew N B Why s s' × Idle s'.mach) (eeach run ys s)
   unfolding eeach
   listed_grew [] h s i = comes (grown_same N B Why s, i)
   listed_grew (y ∷ ys) h s i =
@@ -405,70 +405,70 @@ module _ {U : Type 0} (N : Naming U) (B : Btf) (void : (table_of B).node 0 ≡ p
   -- what a request for x comes to after t: its lines, each with a cause that its ordering gives; or nothing
   pub data Went (x : ℕ) (t u : Explaining (Ls (Known U))) : Type 0 where
     went : (es : List Entry) (ps : List Piece) → u.answer.number ≡ 0 → u.answer.sess.asked ≡ t.answer.sess.asked ++ (x ∷ []) → u.entries ≡ t.entries ++ es → (mach_of u).pieces ≡ (mach_of t).pieces ++ ps
-        → Pairs N B (Caused (table_of B) x (led_for N B size t.answer.sess x)) (mach_of t).known.names es ps (mach_of u).known.names → Idle (mach_of u) → Went x t u
+        → Pairs N B (Caused (table_of B) x (leaders_for N B size t.answer.sess x)) (mach_of t).known.names es ps (mach_of u).known.names → Idle (mach_of u) → Went x t u
     left : (u.answer.number ≡ 0 → ⊥) → u.answer.sess.asked ≡ t.answer.sess.asked → u.entries ≡ t.entries → (mach_of u).pieces ≡ (mach_of t).pieces → Idle (mach_of u) → Went x t u
 
   module _ (t : Explaining (Ls (Known U))) (x : ℕ) (i : Idle (mach_of t)) where
     -- what ordering leaves
-    pub record Before (s : Led (Ls (Known U))) : Type 0 where
+    pub record Before (s : WithLeaders (Ls (Known U))) : Type 0 where
       pub same_pieces : s.state.pieces ≡ (mach_of t).pieces
       pub same_emits : s.state.emits ≡ (mach_of t).emits
       pub same_names : s.state.known.names ≡ (mach_of t).known.names
-      pub beside : s.state.olist ≡ noted_ids s.led
-      pub all_led : AllLed (table_of B) x s
+      pub beside : s.state.olist ≡ listed_ids s.leaders
+      pub all_led_to : AllLedTo (table_of B) x s
 
-    abbrev noted : Led (Ls (Known U)) → Out (Noted (Ls (Known U)))
-    noted s = each_listed X (table_of B) always (shows_in B) (listed_entry x s.led) (X.store.list s.state) (record { mach = s.state; entries = t.entries })
+    abbrev traced : WithLeaders (Ls (Known U)) → Out (Traced (Ls (Known U)))
+    traced s = each_listed X (table_of B) always (shows_in B) (listed_entry x s.leaders) (X.store.list s.state) (record { mach = s.state; entries = t.entries })
 
     -- no line is refused by 0
-    noted_not : (s : Led (Ls (Known U))) → noted s ≡ stuck 0 → ⊥
-    noted_not s e =
-        (each_lined (Numbered X) (λ r m y. emit_noted X r (shows_in B) (listed_entry x s.led) (table_of B) 512 m y 0) (λ m y. emit X (table_of B) 512 m y 0) (λ m y. emit_lined X (shows_in B) (listed_entry x s.led) (table_of B) 512 m y 0)
+    traced_not : (s : WithLeaders (Ls (Known U))) → traced s ≡ stuck 0 → ⊥
+    traced_not s e =
+        (each_lined (Numbered X) (λ r m y. emit_traced X r (shows_in B) (listed_entry x s.leaders) (table_of B) 512 m y 0) (λ m y. emit X (table_of B) 512 m y 0) (λ m y. emit_lined X (shows_in B) (listed_entry x s.leaders) (table_of B) 512 m y 0)
         (X.store.list s.state) (record { mach = s.state; entries = t.entries })).numbered (machine_numbered N B) e
 
-    emitted_went : (s : Led (Ls (Known U))) → Before s → led_for N B size t.answer.sess x ≡ s.led → (o : Out (Noted (Ls (Known U)))) → (o ≡ stuck 0 → ⊥)
-        → Comes (λ s'. Grew N B (Caused (table_of B) x s.led) (record { mach = s.state; entries = t.entries }) s' × Idle s'.mach) o → Went x t (emitted_noted X (table_of B) always (shows_in B) t x o)
-    unfolding emitted_noted dropped shut
+    emitted_went : (s : WithLeaders (Ls (Known U))) → Before s → leaders_for N B size t.answer.sess x ≡ s.leaders → (o : Out (Traced (Ls (Known U)))) → (o ≡ stuck 0 → ⊥)
+        → Comes (λ s'. Grew N B (Caused (table_of B) x s.leaders) (record { mach = s.state; entries = t.entries }) s' × Idle s'.mach) o → Went x t (emitted_traced X (table_of B) always (shows_in B) t x o)
+    unfolding emitted_traced dropped shut
     emitted_went s h l (wrote m) z (comes q) =
         let g = q.0 in
         went g.entries g.pieces refl refl g.entries_are (g.pieces_are ∙ ap (λ (ps : List Piece). ps ++ g.pieces) h.same_pieces)
         (subst (λ (k : List (ℕ × ℕ)). Pairs N B (Caused (table_of B) x k) (mach_of t).known.names g.entries g.pieces m.mach.known.names) (sym l)
-        (subst (λ (u : U). Pairs N B (Caused (table_of B) x s.led) u g.entries g.pieces m.mach.known.names) h.same_names g.pairs)) q.1
+        (subst (λ (u : U). Pairs N B (Caused (table_of B) x s.leaders) u g.entries g.pieces m.mach.known.names) h.same_names g.pairs)) q.1
     emitted_went s h l (stuck e) z halts = left (λ q. z (ap stuck q)) refl refl refl i
 
-    ordered_went : (o : Res (Led (Ls (Known U)))) → led_for N B size t.answer.sess x ≡ notes_of o → Holds Before o → NotNone o → Went x t (ordered_noted X (table_of B) always (shows_in B) t x o)
-    unfolding ordered_noted dropped shut
+    ordered_went : (o : Res (WithLeaders (Ls (Known U)))) → leaders_for N B size t.answer.sess x ≡ notes_of o → Holds Before o → NotNone o → Went x t (ordered_traced X (table_of B) always (shows_in B) t x o)
+    unfolding ordered_traced dropped shut
     ordered_went (ok s b) l (holds h) z =
-        emitted_went s h l (noted s) (noted_not s)
-        (listed_grew N B void always x s.led h.all_led s.state.olist (λ y m. subst (Memᴰ y) h.beside m) (record { mach = s.state; entries = t.entries })
+        emitted_went s h l (traced s) (traced_not s)
+        (listed_grew N B void always x s.leaders h.all_led_to s.state.olist (λ y m. subst (Memᴰ y) h.beside m) (record { mach = s.state; entries = t.entries })
         (λ y e. i y (ap (λ (l : List Mark). get_or l y new) (sym h.same_emits) ∙ e)))
     ordered_went (refused e) l nothing_held (stopped z) = left z refl refl refl i
 
-    on_push : (around : List ℕ) (y : ℕ) → Around (table_of B) x around y → is_listed ((table_of B).node y) ≡ true → (s : Led (Ls (Known U))) → Before s → Before ((led_store X.store x around).push y s)
+    on_push : (around : List ℕ) (y : ℕ) → Around (table_of B) x around y → is_listed ((table_of B).node y) ≡ true → (s : WithLeaders (Ls (Known U))) → Before s → Before ((leader_store X.store x around).push y s)
     on_push around y c l s h = record {
       same_pieces = h.same_pieces;
       same_emits = h.same_emits;
       same_names = h.same_names;
-      beside = ap (λ (k : List ℕ). k ++ (y ∷ [])) h.beside ∙ sym (ids_append s.led ((y, led_by x around y) ∷ []));
-      all_led = push_led X.store (table_of B) x around y c l s h.all_led;
+      beside = ap (λ (k : List ℕ). k ++ (y ∷ [])) h.beside ∙ sym (ids_append s.leaders ((y, led_by x around y) ∷ []));
+      all_led_to = push_leader X.store (table_of B) x around y c l s h.all_led_to;
     }
 
-    gate_went : (o b : Bool) → Went x t (gate_noted X (table_of B) always (shows_in B) size t x o b)
-    unfolding gate_noted led_for
+    gate_went : (o b : Bool) → Went x t (gate_traced X (table_of B) always (shows_in B) size t x o b)
+    unfolding gate_traced leaders_for
     gate_went false b = left (λ (z : ◌≡◌ {A = ℕ} 11 0). omega arith) refl refl refl i
     gate_went true false = left (λ (z : ◌≡◌ {A = ℕ} 10 0). omega arith) refl refl refl i
     gate_went true true =
-        let s : Led (Ls (Known U)) = record { state = X.start size (mach_of t); led = [] } in
-        ordered_went (order_led X.store x 512 (table_of B) [] s x false) refl
-        (order_keeps X.store (table_of B) x Before (λ m y s' h. record { same_pieces = h.same_pieces; same_emits = h.same_emits; same_names = h.same_names; beside = h.beside; all_led = h.all_led }) on_push 512 [] s x false (outermost x itself)
-        (record { same_pieces = refl; same_emits = refl; same_names = refl; beside = refl; all_led = λ p m. absurd (Memᴰ.not-nil m) }))
+        let s : WithLeaders (Ls (Known U)) = record { state = X.start size (mach_of t); leaders = [] } in
+        ordered_went (order_with_leaders X.store x 512 (table_of B) [] s x false) refl
+        (order_keeps X.store (table_of B) x Before (λ m y s' h. record { same_pieces = h.same_pieces; same_emits = h.same_emits; same_names = h.same_names; beside = h.beside; all_led_to = h.all_led_to }) on_push 512 [] s x false (outermost x itself)
+        (record { same_pieces = refl; same_emits = refl; same_names = refl; beside = refl; all_led_to = λ p m. absurd (Memᴰ.not-nil m) }))
         (order_not X.store x 512 (table_of B) [] s x false)
 
   abbrev singly : ℕ → Explaining (Ls (Known U)) → Explaining (Ls (Known U))
-  singly x t = single_noted X (table_of B) always (shows_in B) size x t
+  singly x t = single_traced X (table_of B) always (shows_in B) size x t
 
   single_went : (x : ℕ) (t : Explaining (Ls (Known U))) → Idle (mach_of t) → Went x t (singly x t)
-  unfolding single_noted
+  unfolding single_traced
   single_went x t i = gate_went t x i t.answer.sess.is_open (ltb x (table_of B).count)
 
   -- what the requests for some ids add: those that were accepted, in their turns; and nothing is in progress after them
@@ -517,7 +517,7 @@ module _ {U : Type 0} (N : Naming U) (B : Btf) (void : (table_of B).node 0 ≡ p
     plainly = (single_fits X (table_of B) (shows_in B) (machine_numbered N B) size x t).same
 
     went_then : (ids : List ℕ) (v : Explaining (Ls (Known U))) (es : List Entry) (ps : List Piece) → u.answer.number ≡ 0 → u.answer.sess.asked ≡ t.answer.sess.asked ++ (x ∷ []) → u.entries ≡ t.entries ++ es
-        → (mach_of u).pieces ≡ (mach_of t).pieces ++ ps → Pairs N B (Caused (table_of B) x (led_for N B size t.answer.sess x)) (mach_of t).known.names es ps (mach_of u).known.names → Told-grown ids u v → Told-grown (x ∷ ids) t v
+        → (mach_of u).pieces ≡ (mach_of t).pieces ++ ps → Pairs N B (Caused (table_of B) x (leaders_for N B size t.answer.sess x)) (mach_of t).known.names es ps (mach_of u).known.names → Told-grown ids u v → Told-grown (x ∷ ids) t v
     went_then ids v es ps z k e q p g = record {
       accepted = x ∷ g.accepted;
       rest = g.rest;
@@ -530,15 +530,15 @@ module _ {U : Type 0} (N : Naming U) (B : Btf) (void : (table_of B).node 0 ≡ p
       pieces_are = g.pieces_are ∙ ap (λ (l : List Piece). l ++ g.pieces) q ∙ append_assoc (mach_of t).pieces ps g.pieces;
       turns = turn t.answer.sess x g.accepted es g.entries ps g.pieces (ap (λ (y : Answer (Ls (Known U))). y.number) (sym plainly) ∙ z)
           (ap (λ (y : Answer (Ls (Known U))). y.sess.mach.pieces) (sym plainly) ∙ q)
-          (subst (λ (y : Answer (Ls (Known U))). Pairs N B (Caused (table_of B) x (led_for N B size t.answer.sess x)) (mach_of t).known.names es ps y.sess.mach.known.names) plainly p)
+          (subst (λ (y : Answer (Ls (Known U))). Pairs N B (Caused (table_of B) x (leaders_for N B size t.answer.sess x)) (mach_of t).known.names es ps y.sess.mach.known.names) plainly p)
           (subst (λ (y : Answer (Ls (Known U))). Turns N B size y.sess g.accepted g.entries g.pieces) plainly g.turns);
       idle = g.idle;
     }
 
     -- a request, and the others if it is accepted
     onward_grown : (ids : List ℕ) (k : Explaining (Ls (Known U)) → Explaining (Ls (Known U))) → ((t' : Explaining (Ls (Known U))) → Idle (mach_of t') → Told-grown ids t' (k t')) → Went x t u
-        → Told-grown (x ∷ ids) t (onward_noted X (table_of B) always (shows_in B) k u)
-    unfolding onward_noted
+        → Told-grown (x ∷ ids) t (onward_traced X (table_of B) always (shows_in B) k u)
+    unfolding onward_traced
     onward_grown ids k h (went es ps z j e q p i) =
         subst (λ (m : ℕ). Told-grown (x ∷ ids) t (elim m as (λ (y : ℕ). Explaining (Ls (Known U))) [ zero ↦ k u | suc r ↦ u ])) (sym z) (went_then ids (k u) es ps z j e q p (h u i))
     onward_grown ids k h (left z j e q i) = by u.answer.number refl
@@ -556,18 +556,18 @@ module _ {U : Type 0} (N : Naming U) (B : Btf) (void : (table_of B).node 0 ≡ p
   single_grown x t i = one_grown x t (single_went x t i)
 
   -- a list of ids, n ids from x on, all ids
-  pub list_grown : (xs : List ℕ) (t : Explaining (Ls (Known U))) → Idle (mach_of t) → Told-grown xs t (list_noted X (table_of B) always (shows_in B) size xs t)
-  unfolding list_noted
+  pub list_grown : (xs : List ℕ) (t : Explaining (Ls (Known U))) → Idle (mach_of t) → Told-grown xs t (list_traced X (table_of B) always (shows_in B) size xs t)
+  unfolding list_traced
   list_grown [] t i = told_same t i
-  list_grown (x ∷ xs) t i = onward_grown x t xs (list_noted X (table_of B) always (shows_in B) size xs) (λ v j. list_grown xs v j) (single_went x t i)
+  list_grown (x ∷ xs) t i = onward_grown x t xs (list_traced X (table_of B) always (shows_in B) size xs) (λ v j. list_grown xs v j) (single_went x t i)
 
-  pub from_grown : (n x : ℕ) (t : Explaining (Ls (Known U))) → Idle (mach_of t) → Told-grown (ids_from n x) t (from_noted X (table_of B) always (shows_in B) size n x t)
-  unfolding from_noted ids_from
+  pub from_grown : (n x : ℕ) (t : Explaining (Ls (Known U))) → Idle (mach_of t) → Told-grown (ids_from n x) t (from_traced X (table_of B) always (shows_in B) size n x t)
+  unfolding from_traced ids_from
   from_grown zero x t i = told_same t i
-  from_grown (suc n) x t i = onward_grown x t (ids_from n (suc x)) (from_noted X (table_of B) always (shows_in B) size n (suc x)) (λ v j. from_grown n (suc x) v j) (single_went x t i)
+  from_grown (suc n) x t i = onward_grown x t (ids_from n (suc x)) (from_traced X (table_of B) always (shows_in B) size n (suc x)) (λ v j. from_grown n (suc x) v j) (single_went x t i)
 
-  pub every_grown : (S : Sess (Ls (Known U))) → Idle S.mach → (b : Bool) → Told-grown (ids_from (B.type_cnt - 1) 1) (untold S) (every_noted X (table_of B) always (shows_in B) size S b)
-  unfolding every_noted
+  pub every_grown : (S : Sess (Ls (Known U))) → Idle S.mach → (b : Bool) → Told-grown (ids_from (B.type_cnt - 1) 1) (untold S) (every_traced X (table_of B) always (shows_in B) size S b)
+  unfolding every_traced
   every_grown S i false = told_none (ids_from (B.type_cnt - 1) 1) (untold S) (record { answer = record { sess = S; number = 11 }; entries = []; zeroed = false }) (λ (z : ◌≡◌ {A = ℕ} 11 0). absurd (omega arith)) refl refl refl i
   every_grown S i true =
       let g = from_grown (B.type_cnt - 1) 1 (record { answer = record { sess = S; number = 0 }; entries = []; zeroed = true }) i in

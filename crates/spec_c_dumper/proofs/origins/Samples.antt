@@ -15,7 +15,7 @@ use Rattle.spec_c_dumper.specs.rules.Emit.{definition, shown, forward}
 use Rattle.spec_c_dumper.specs.rules.Listed.{tags_id, tags_from}
 use Rattle.spec_c_dumper.specs.needs.Lists.{tags_of, afresh}
 use Rattle.spec_c_dumper.specs.needs.Session.{fitting, line_of, text_of}
-use Rattle.spec_c_dumper.specs.origins.Causes.{led_by, order_led, leader_of, listed_entry, with_entries, line, cause_at, emit_noted, dropped, emitted_noted, ordered_noted, gate_noted, single_noted, onward_noted, from_noted, every_noted, bytes_of, filled, causes_of, one_causes}
+use Rattle.spec_c_dumper.specs.origins.Causes.{led_by, order_with_leaders, leader_of, listed_entry, with_entries, line, cause_at, emit_traced, dropped, emitted_traced, ordered_traced, gate_traced, single_traced, onward_traced, from_traced, every_traced, bytes_of, filled, causes_of, one_causes}
 use Rattle.spec_c_dumper.specs.origins.Samples.{given, wanted}
 
 pub samples_hold : given ≡ wanted
@@ -27,6 +27,6 @@ unfolding one_more join bytes pfx digits decimal bind each meet push_if enter al
     no_mods shown_params unit_word pads last_newline own_line tail_text body_packed tail_pads bit_size_of emit_composite_fwd emit_fwd_def enum_word emit_values enum_body emit_enum_def emit_name brackets
     parens emit_param emit_params base_word emit_array emit_proto param_list chain_loop emit_members composite_head composite_end composite_body
     composite_def emit_typedef_def emit_type_decl emit_type_chain emit_composite_def definition shown forward tags_id tags_from tags_of afresh fitting line_of
-    text_of led_by order_led leader_of listed_entry with_entries line cause_at emit_noted dropped emitted_noted ordered_noted gate_noted single_noted onward_noted from_noted every_noted
+    text_of led_by order_with_leaders leader_of listed_entry with_entries line cause_at emit_traced dropped emitted_traced ordered_traced gate_traced single_traced onward_traced from_traced every_traced
     bytes_of filled causes_of one_causes
 samples_hold = refl

@@ -145,32 +145,32 @@ module _ {St : Type 0} (Q : Asks St) (N : Naming St) (B : Btf) where
 
 -- ---- names and memory side by side
 -- the names, what is remembered of alignments, and the visits that it took: "the counted visits .. are kept in the record"
-pub record Minded (U M : Type 0) : Type 0 where
+pub record Remembering (U M : Type 0) : Type 0 where
   pub names : U
   pub memory : M
   pub visits : ℕ
 
 module _ {U M : Type 0} where
-  abbrev pub with_names : Minded U M → Resolved U → Resolved (Minded U M)
+  abbrev pub with_names : Remembering U M → Resolved U → Resolved (Remembering U M)
   with_names v r = record { version = r.version; names = record { names = r.names; memory = v.memory; visits = v.visits } }
 
   -- names are given as they are without a memory
-  abbrev pub minded : Naming U → Naming (Minded U M)
-  minded N = record {
+  abbrev pub remembering_names : Naming U → Naming (Remembering U M)
+  remembering_names N = record {
     type_version = λ space id name v. with_names v (N.type_version space id name v.names);
     value_version = λ id i name v. with_names v (N.value_version id i name v.names);
   }
 
-  unfoldable pub carried : {A : Type 0} → Minded U M → Once M A → Once (Minded U M) A
+  unfoldable pub carried : {A : Type 0} → Remembering U M → Once M A → Once (Remembering U M) A
   carried v (found a m k) = found a (record { names = v.names; memory = m; visits = k }) k
   carried v (refused c m k) = refused c v k
 
-  abbrev pub minded_asks : Keep M → Btf → Asks (Minded U M)
-  minded_asks K B = record {
+  abbrev pub remembering_asks : Keep M → Btf → Asks (Remembering U M)
+  remembering_asks K B = record {
     padding = λ offset x packed v. carried v (padding_once K B offset x packed v.memory v.visits);
     body = λ is_struct id sz ms v. carried v (body_once K B is_struct id sz ms v.memory v.visits);
   }
 
 -- what opening leaves, with the names u and the memory m, in which nothing is remembered
-abbrev pub no_visits : {U M : Type 0} → U → M → Minded U M
+abbrev pub no_visits : {U M : Type 0} → U → M → Remembering U M
 no_visits u m = record { names = u; memory = m; visits = 0 }

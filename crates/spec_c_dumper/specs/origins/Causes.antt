@@ -41,42 +41,43 @@ inside true x around = x ∷ around
 inside false x around = around
 
 -- the store, and each listed id with the id that led to it, in the order of the listings
-pub record Led (St : Type 0) : Type 0 where
+pub record WithLeaders (St : Type 0) : Type 0 where
   pub state : St
-  pub led : List (ℕ × ℕ)
+  pub leaders : List (ℕ × ℕ)
 
 module _ {St : Type 0} (K : Store St) (req : ℕ) where
-  abbrev pub led_store : List ℕ → Store (Led St)
-  led_store around = record {
+  abbrev pub leader_store : List ℕ → Store (WithLeaders St)
+  leader_store around = record {
     get = λ s x. K.get s.state x;
-    mark = λ m x s. record { state = K.mark m x s.state; led = s.led };
-    push = λ x s. record { state = K.push x s.state; led = s.led ++ ((x, led_by req around x) ∷ []) };
+    mark = λ m x s. record { state = K.mark m x s.state; leaders = s.leaders };
+    push = λ x s. record { state = K.push x s.state; leaders = s.leaders ++ ((x, led_by req around x) ∷ []) };
     list = λ s. K.list s.state;
   }
 
   -- the rule `order`: each call with what is being ordered around it
-  unfoldable pub order_led : ℕ → Table → List ℕ → Led St → ℕ → Bool → Res (Led St)
-  order_led zero T around s x weak = refused 12
-  order_led (suc n) T around s x weak =
-      visit (led_store around) T (λ s' y w. order_led n T (inside (is_around (T.node x)) x around) s' y w) s x weak (K.get s.state x)
+  unfoldable pub order_with_leaders : ℕ → Table → List ℕ → WithLeaders St → ℕ → Bool → Res (WithLeaders St)
+  order_with_leaders zero T around s x weak = refused 12
+  order_with_leaders (suc n) T around s x weak =
+      visit (leader_store around) T (λ s' y w. order_with_leaders n T (inside (is_around (T.node x)) x around) s' y w) s x weak
+      (K.get s.state x)
 
 -- "led to by [..] at its first listing"
 unfoldable pub leader_of : ℕ → List (ℕ × ℕ) → ℕ → ℕ
 leader_of req [] x = req
-leader_of req (p ∷ led) x = elim (eqb p.0 x) [ true ↦ p.1 | false ↦ leader_of req led x ]
+leader_of req (p ∷ leaders) x = elim (eqb p.0 x) [ true ↦ p.1 | false ↦ leader_of req leaders x ]
 
 -- "The requested id leads to itself; a needed line is any other listed id"
 unfoldable pub listed_entry : ℕ → List (ℕ × ℕ) → ℕ → Entry
-listed_entry req led x = elim (eqb x req) [ true ↦ entry x 0 x | false ↦ entry x 1 (leader_of req led x) ]
+listed_entry req leaders x = elim (eqb x req) [ true ↦ entry x 0 x | false ↦ entry x 1 (leader_of req leaders x) ]
 
 -- ---- emission
 
 -- the machine, and the entries of the call so far
-pub record Noted (M : Type 0) : Type 0 where
+pub record Traced (M : Type 0) : Type 0 where
   pub mach : M
   pub entries : List Entry
 
-unfoldable pub with_entries : {M : Type 0} → List Entry → Out M → Out (Noted M)
+unfoldable pub with_entries : {M : Type 0} → List Entry → Out M → Out (Traced M)
 with_entries es (wrote m) = wrote (record { mach = m; entries = es })
 with_entries es (stuck e) = stuck e
 
@@ -89,7 +90,7 @@ always k = true
 
 -- what a line comes to that is an entry, or prints nothing and is none. "A lent list too short for one more entry is 17, met before any
 -- other step of that line."
-unfoldable pub line : {M : Type 0} → (ℕ → Bool) → Bool → Entry → (M → Out M) → Noted M → Out (Noted M)
+unfoldable pub line : {M : Type 0} → (ℕ → Bool) → Bool → Entry → (M → Out M) → Traced M → Out (Traced M)
 line more false e step s = with_entries s.entries (step s.mach)
 line more true e step s =
     elim (more (length s.entries)) [ true ↦ with_entries (s.entries ++ (e ∷ [])) (step s.mach) | false ↦ stuck 17 ]
@@ -104,7 +105,7 @@ cause_at within top x (suc cont) = entry x within (suc cont)
 -- of a listed id
 module _ {M : Type 0} (X : Machine M) (more : ℕ → Bool) (shows : ℕ → Bool) (why : ℕ → Entry) where
   -- the machine's steps within a container, 0 at the top; "a definition is one" line, also where it is only `;`
-  abbrev pub noting : ℕ → Machine (Noted M)
+  abbrev pub noting : ℕ → Machine (Traced M)
   noting cont = record {
     store = record {
       get = λ s x. X.store.get s.mach x;
@@ -125,9 +126,9 @@ module _ {M : Type 0} (X : Machine M) (more : ℕ → Bool) (shows : ℕ → Boo
   }
 
   -- the rule `emit`: each call with the machine of its container
-  unfoldable pub emit_noted : Table → ℕ → Noted M → ℕ → ℕ → Out (Noted M)
-  emit_noted T zero s x cont = stuck 12
-  emit_noted T (suc n) s x cont = look (noting cont) T (λ s' y c. emit_noted T n s' y c) s x cont (X.eget s.mach x)
+  unfoldable pub emit_traced : Table → ℕ → Traced M → ℕ → ℕ → Out (Traced M)
+  emit_traced T zero s x cont = stuck 12
+  emit_traced T (suc n) s x cont = look (noting cont) T (λ s' y c. emit_traced T n s' y c) s x cont (X.eget s.mach x)
 
 -- A forward line, or a typedef, of a name that contains `__builtin_va_list` prints nothing; a definition prints at least `;`.
 abbrev pub shows_in : Btf → ℕ → Bool
@@ -151,53 +152,53 @@ module _ {M : Type 0} (X : Machine M) (T : Table) (more : ℕ → Bool) (shows :
   unfoldable pub dropped : Explaining M → ℕ → Explaining M
   dropped t e = record { answer = shut X T t.answer.sess e; entries = t.entries; zeroed = true }
 
-  unfoldable pub emitted_noted : Explaining M → ℕ → Out (Noted M) → Explaining M
-  emitted_noted t x (wrote m) = record {
+  unfoldable pub emitted_traced : Explaining M → ℕ → Out (Traced M) → Explaining M
+  emitted_traced t x (wrote m) = record {
     answer = record { sess = record { is_open = true; mach = m.mach; asked = t.answer.sess.asked ++ (x ∷ []) }; number = 0 };
     entries = m.entries;
     zeroed = true;
   }
-  emitted_noted t x (stuck e) = dropped t e
+  emitted_traced t x (stuck e) = dropped t e
 
   -- the listed ids, each at the top
-  abbrev pub each_listed : (ℕ → Entry) → List ℕ → Noted M → Out (Noted M)
-  each_listed why = eeach (λ m y. emit_noted X more shows why T 512 m y 0)
+  abbrev pub each_listed : (ℕ → Entry) → List ℕ → Traced M → Out (Traced M)
+  each_listed why = eeach (λ m y. emit_traced X more shows why T 512 m y 0)
 
-  unfoldable pub ordered_noted : Explaining M → ℕ → Res (Led M) → Explaining M
-  ordered_noted t x (ok s b) =
-      emitted_noted t x (each_listed (listed_entry x s.led) (X.store.list s.state) (record { mach = s.state; entries = t.entries }))
-  ordered_noted t x (refused e) = dropped t e
+  unfoldable pub ordered_traced : Explaining M → ℕ → Res (WithLeaders M) → Explaining M
+  ordered_traced t x (ok s b) =
+      emitted_traced t x (each_listed (listed_entry x s.leaders) (X.store.list s.state) (record { mach = s.state; entries = t.entries }))
+  ordered_traced t x (refused e) = dropped t e
 
   -- as `gate`; 11 and 10 leave everything
-  unfoldable pub gate_noted : ℕ → Explaining M → ℕ → Bool → Bool → Explaining M
-  gate_noted room t x false below =
+  unfoldable pub gate_traced : ℕ → Explaining M → ℕ → Bool → Bool → Explaining M
+  gate_traced room t x false below =
       record { answer = record { sess = t.answer.sess; number = 11 }; entries = t.entries; zeroed = t.zeroed }
-  gate_noted room t x true false =
+  gate_traced room t x true false =
       record { answer = record { sess = t.answer.sess; number = 10 }; entries = t.entries; zeroed = t.zeroed }
-  gate_noted room t x true true =
-      ordered_noted t x (order_led X.store x 512 T [] (record { state = X.start room t.answer.sess.mach; led = [] }) x false)
+  gate_traced room t x true true =
+      ordered_traced t x (order_with_leaders X.store x 512 T [] (record { state = X.start room t.answer.sess.mach; leaders = [] }) x false)
 
   -- a request for x; room: the text's, as in `single`
-  unfoldable pub single_noted : ℕ → ℕ → Explaining M → Explaining M
-  single_noted room x t = gate_noted room t x t.answer.sess.is_open (ltb x T.count)
+  unfoldable pub single_traced : ℕ → ℕ → Explaining M → Explaining M
+  single_traced room x t = gate_traced room t x t.answer.sess.is_open (ltb x T.count)
 
-  unfoldable pub onward_noted : (Explaining M → Explaining M) → Explaining M → Explaining M
-  onward_noted k t = elim t.answer.number [ zero ↦ k t | suc n ↦ t ]
+  unfoldable pub onward_traced : (Explaining M → Explaining M) → Explaining M → Explaining M
+  onward_traced k t = elim t.answer.number [ zero ↦ k t | suc n ↦ t ]
 
   -- a list of ids, and n ids from x on: one list of entries for the call
-  unfoldable pub list_noted : ℕ → List ℕ → Explaining M → Explaining M
-  list_noted room [] t = t
-  list_noted room (x ∷ xs) t = onward_noted (list_noted room xs) (single_noted room x t)
+  unfoldable pub list_traced : ℕ → List ℕ → Explaining M → Explaining M
+  list_traced room [] t = t
+  list_traced room (x ∷ xs) t = onward_traced (list_traced room xs) (single_traced room x t)
 
-  unfoldable pub from_noted : ℕ → ℕ → ℕ → Explaining M → Explaining M
-  from_noted room zero x t = t
-  from_noted room (suc n) x t = onward_noted (from_noted room n (suc x)) (single_noted room x t)
+  unfoldable pub from_traced : ℕ → ℕ → ℕ → Explaining M → Explaining M
+  from_traced room zero x t = t
+  from_traced room (suc n) x t = onward_traced (from_traced room n (suc x)) (single_traced room x t)
 
   -- a request for all ids zeroes what follows the text also over no types
-  unfoldable pub every_noted : ℕ → Sess M → Bool → Explaining M
-  every_noted room S false = record { answer = record { sess = S; number = 11 }; entries = []; zeroed = false }
-  every_noted room S true =
-      from_noted room (T.count - 1) 1 (record { answer = record { sess = S; number = 0 }; entries = []; zeroed = true })
+  unfoldable pub every_traced : ℕ → Sess M → Bool → Explaining M
+  every_traced room S false = record { answer = record { sess = S; number = 11 }; entries = []; zeroed = false }
+  every_traced room S true =
+      from_traced room (T.count - 1) 1 (record { answer = record { sess = S; number = 0 }; entries = []; zeroed = true })
 
 -- ---- the lent list, as bytes
 
@@ -234,13 +235,13 @@ entries_in l = length l / 12
 -- the calls that are lent a list l: one id, a list of ids, all ids
 module _ {M : Type 0} (X : Machine M) (T : Table) (shows : ℕ → Bool) where
   unfoldable pub one_causes : List ℕ → ℕ → Sess M → ℕ → Causes M
-  one_causes l room S x = causes_of l (single_noted X T (up_to (entries_in l)) shows room x (untold S))
+  one_causes l room S x = causes_of l (single_traced X T (up_to (entries_in l)) shows room x (untold S))
 
   unfoldable pub list_causes : List ℕ → ℕ → Sess M → List ℕ → Causes M
-  list_causes l room S xs = causes_of l (list_noted X T (up_to (entries_in l)) shows room xs (untold S))
+  list_causes l room S xs = causes_of l (list_traced X T (up_to (entries_in l)) shows room xs (untold S))
 
   unfoldable pub all_causes : List ℕ → ℕ → Sess M → Causes M
-  all_causes l room S = causes_of l (every_noted X T (up_to (entries_in l)) shows room S S.is_open)
+  all_causes l room S = causes_of l (every_traced X T (up_to (entries_in l)) shows room S S.is_open)
 
 -- n ids from x on
 unfoldable pub ids_from : ℕ → ℕ → List ℕ

@@ -4,15 +4,15 @@ use mathlib.Core.List.{List, [], ◌∷◌, ◌++◌, Memᴰ}
 use Rattle.spec_c_dumper.specs.rules.Order.{Node, ignored, plain, listed, through, ptr, tdef, proto, comp, Table}
 use Rattle.spec_c_dumper.specs.rules.Machine.{Out, wrote, stuck, Machine, Sess, Answer, single, onward}
 use Rattle.spec_c_dumper.specs.needs.Needs.{kids}
-use Rattle.spec_c_dumper.specs.origins.Causes.{is_around, Entry, Noted, up_to, always, Explaining, bytes_of, Causes}
+use Rattle.spec_c_dumper.specs.origins.Causes.{is_around, Entry, Traced, up_to, always, Explaining, bytes_of, Causes}
 
 -- ---- leaders
 
 -- x is l, or is followed from l past types that do not end the way
-pub data Leads (T : Table) (ends : ℕ → Bool) (l : ℕ) : ℕ → Type 0 where
-  itself : Leads T ends l l
-  first : (x : ℕ) → Memᴰ x (kids (T.node l)) → Leads T ends l x
-  next : (z x : ℕ) → Leads T ends l z → ends z ≡ false → Memᴰ x (kids (T.node z)) → Leads T ends l x
+pub data ChainFrom (T : Table) (ends : ℕ → Bool) (l : ℕ) : ℕ → Type 0 where
+  itself : ChainFrom T ends l l
+  first : (x : ℕ) → Memᴰ x (kids (T.node l)) → ChainFrom T ends l x
+  next : (z x : ℕ) → ChainFrom T ends l z → ends z ≡ false → Memᴰ x (kids (T.node z)) → ChainFrom T ends l x
 
 -- for ordering, a composite or a typedef ends it
 abbrev pub orders_around : Table → ℕ → Bool
@@ -33,12 +33,12 @@ is_listed (comp ts) = true
 -- typedef.
 pub record LedTo (T : Table) (req id leader : ℕ) : Type 0 where
   pub is_listed_lem : is_listed (T.node id) ≡ true
-  pub leads : Leads T (orders_around T) leader id
+  pub leads : ChainFrom T (orders_around T) leader id
   pub which : (leader ≡ req) ⊎ ((leader ≢ id) × (is_around (T.node leader) ≡ true))
 
 -- ---- entries and the plain rules
 
-unfoldable pub forget : {M : Type 0} → Out (Noted M) → Out M
+unfoldable pub forget : {M : Type 0} → Out (Traced M) → Out M
 forget (wrote s) = wrote s.mach
 forget (stuck e) = stuck e
 
@@ -51,13 +51,13 @@ pub record Numbered {M : Type 0} (X : Machine M) : Type 0 where
 
 -- What emission comes to, with k entries before it: with room for all, what the plain rule comes to. In a list of c entries it is the same
 -- if the lines that are begun fit, and else 17. Z: that no line is refused by the number 0.
-pub record Lined {M : Type 0} (Z : Type 0) (k : ℕ) (F : (ℕ → Bool) → Out (Noted M)) (plainly : Out M) : Type 0 where
+pub record Lined {M : Type 0} (Z : Type 0) (k : ℕ) (F : (ℕ → Bool) → Out (Traced M)) (plainly : Out M) : Type 0 where
   pub same : forget (F always) ≡ plainly
   pub need : ℕ
   pub from : k ≤ need
   pub fits : (c : ℕ) → need ≤ c → F (up_to c) ≡ F always
   pub short : (c : ℕ) → k ≤ c → c < need → F (up_to c) ≡ stuck 17
-  pub counts : (s : Noted M) → F always ≡ wrote s → length s.entries ≡ need
+  pub counts : (s : Traced M) → F always ≡ wrote s → length s.entries ≡ need
   pub numbered : Z → F always ≡ stuck 0 → ⊥
 
 -- The same of the requests of a call: without the entries its answer is that of the plain requests, unless the list is too short, which is

@@ -12,8 +12,8 @@ use Rattle.spec_c_dumper.specs.rules.Names.{Naming}
 use Rattle.spec_c_dumper.specs.rules.Emit.{definition, forward}
 use Rattle.spec_c_dumper.specs.needs.Lists.{Piece, defines, other, Ls}
 use Rattle.spec_c_dumper.specs.needs.Session.{Known, machine_by}
-use Rattle.spec_c_dumper.specs.origins.Causes.{Entry, entry, Led, order_led}
-use Rattle.spec_c_dumper.specs.origins.Claims.{Leads, LedTo}
+use Rattle.spec_c_dumper.specs.origins.Causes.{Entry, entry, WithLeaders, order_with_leaders}
+use Rattle.spec_c_dumper.specs.origins.Claims.{ChainFrom, LedTo}
 
 -- a text that ends in `;`, a newline and an empty line
 pub record Ended (t : List ℕ) : Type 0 where
@@ -91,39 +91,39 @@ abbrev pub contains : Table → ℕ → Bool
 contains T z = is_container (T.node z) (T.named z)
 
 -- the listed ids of a request
-abbrev pub noted_ids : List (ℕ × ℕ) → List ℕ
-noted_ids [] = []
-noted_ids (p ∷ ps) = p.0 ∷ noted_ids ps
+abbrev pub listed_ids : List (ℕ × ℕ) → List ℕ
+listed_ids [] = []
+listed_ids (p ∷ ps) = p.0 ∷ listed_ids ps
 
 -- "at its first listing": l stands beside the first x
 pub data First (x l : ℕ) : List (ℕ × ℕ) → Type 0 where
-  here : (led : List (ℕ × ℕ)) → First x l ((x, l) ∷ led)
-  later : (p : ℕ × ℕ) (led : List (ℕ × ℕ)) → p.0 ≢ x → First x l led → First x l (p ∷ led)
+  here : (leaders : List (ℕ × ℕ)) → First x l ((x, l) ∷ leaders)
+  later : (p : ℕ × ℕ) (leaders : List (ℕ × ℕ)) → p.0 ≢ x → First x l leaders → First x l (p ∷ leaders)
 
 -- a container of the lines of the listed ids: one of these, or a typedef within such a container
 pub data Container (T : Table) (Top : ℕ → Type 0) : ℕ → Type 0 where
   outer : (x : ℕ) → Top x → Container T Top x
-  inner : (cont x : ℕ) → Container T Top cont → is_typedef (T.node x) ≡ true → Leads T (contains T) cont x → Container T Top x
+  inner : (cont x : ℕ) → Container T Top cont → is_typedef (T.node x) ≡ true → ChainFrom T (contains T) cont x → Container T Top x
 
 -- cont is the container at x: a typedef or a named composite, from which x is followed past no other
 pub record Inside (T : Table) (Top : ℕ → Type 0) (cont x : ℕ) : Type 0 where
   pub some : cont ≢ 0
   pub contained : contains T cont ≡ true
   pub within : Container T Top cont
-  pub leads : Leads T (contains T) cont x
+  pub leads : ChainFrom T (contains T) cont x
 
 -- led: the listed ids of the request for req, in the order of their listings, each with what led to it
-pub data Caused (T : Table) (req : ℕ) (led : List (ℕ × ℕ)) : Entry → Type 0 where
-  requested : Memᴰ req (noted_ids led) → Caused T req led (entry req 0 req)
-  needed : (x l : ℕ) → x ≢ req → First x l led → LedTo T req x l → Caused T req led (entry x 1 l)
-  forwarded : (x cont : ℕ) → Inside T (λ y. Memᴰ y (noted_ids led)) cont x → Caused T req led (entry x 2 cont)
-  early : (x cont : ℕ) → is_typedef (T.node x) ≡ true → Inside T (λ y. Memᴰ y (noted_ids led)) cont x
-      → Caused T req led (entry x 3 cont)
+pub data Caused (T : Table) (req : ℕ) (leaders : List (ℕ × ℕ)) : Entry → Type 0 where
+  requested : Memᴰ req (listed_ids leaders) → Caused T req leaders (entry req 0 req)
+  needed : (x l : ℕ) → x ≢ req → First x l leaders → LedTo T req x l → Caused T req leaders (entry x 1 l)
+  forwarded : (x cont : ℕ) → Inside T (λ y. Memᴰ y (listed_ids leaders)) cont x → Caused T req leaders (entry x 2 cont)
+  early : (x cont : ℕ) → is_typedef (T.node x) ≡ true → Inside T (λ y. Memᴰ y (listed_ids leaders)) cont x
+      → Caused T req leaders (entry x 3 cont)
 
 -- ---- the requests of a call, in their turns
 
-abbrev pub notes_of : {St : Type 0} → Res (Led St) → List (ℕ × ℕ)
-notes_of (ok s b) = s.led
+abbrev pub notes_of : {St : Type 0} → Res (WithLeaders St) → List (ℕ × ℕ)
+notes_of (ok s b) = s.leaders
 notes_of (refused e) = []
 
 -- with a text slice of `room` bytes
@@ -132,10 +132,10 @@ module _ {U : Type 0} (N : Naming U) (B : Btf) (room : ℕ) where
   answered S x = single (machine_by N B) (table_of B) room S x
 
   -- what the ordering of a request for x in the session S notes
-  unfoldable pub led_for : Sess (Ls (Known U)) → ℕ → List (ℕ × ℕ)
-  led_for S x =
-      notes_of (order_led (machine_by N B).store x 512 (table_of B) []
-      (record { state = (machine_by N B).start room S.mach; led = [] }) x false)
+  unfoldable pub leaders_for : Sess (Ls (Known U)) → ℕ → List (ℕ × ℕ)
+  leaders_for S x =
+      notes_of (order_with_leaders (machine_by N B).store x 512 (table_of B) []
+      (record { state = (machine_by N B).start room S.mach; leaders = [] }) x false)
 
   -- The accepted requests of a call, the first in the session S: the entries and the pieces of each, with the names as they are then, and
   -- for each entry a cause that this request and its very ordering give.
@@ -143,5 +143,5 @@ module _ {U : Type 0} (N : Naming U) (B : Btf) (room : ℕ) where
     no_turn : (S : Sess (Ls (Known U))) → Turns S [] [] []
     turn : (S : Sess (Ls (Known U))) (x : ℕ) (xs : List ℕ) (es fs : List Entry) (ps qs : List Piece) → (answered S x).number ≡ 0
         → (answered S x).sess.mach.pieces ≡ S.mach.pieces ++ ps
-        → Pairs N B (Caused (table_of B) x (led_for S x)) S.mach.known.names es ps (answered S x).sess.mach.known.names
+        → Pairs N B (Caused (table_of B) x (leaders_for S x)) S.mach.known.names es ps (answered S x).sess.mach.known.names
         → Turns (answered S x).sess xs fs qs → Turns S (x ∷ xs) (es ++ fs) (ps ++ qs)

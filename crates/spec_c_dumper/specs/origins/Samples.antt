@@ -6,7 +6,7 @@ use Rattle.spec_c_dumper.specs.rules.Names.{Names}
 use Rattle.spec_c_dumper.specs.rules.Samples.{table, member}
 use Rattle.spec_c_dumper.specs.needs.Lists.{Ls}
 use Rattle.spec_c_dumper.specs.needs.Session.{Known, text_of, machine, opened}
-use Rattle.spec_c_dumper.specs.origins.Causes.{Entry, shows_in, up_to, Explaining, untold, single_noted, every_noted, one_causes}
+use Rattle.spec_c_dumper.specs.origins.Causes.{Entry, shows_in, up_to, Explaining, untold, single_traced, every_traced, one_causes}
 
 abbrev pub words : List Entry → List ℕ
 words [] = []
@@ -18,10 +18,10 @@ told t = t.answer.number ∷ words t.entries
 
 -- a request for x, and for all ids, with a list of c entries
 abbrev pub one : Btf → ℕ → ℕ → Explaining (Ls (Known Names))
-one B c x = single_noted (machine B) (table_of B) (up_to c) (shows_in B) 65536 x (untold (opened B))
+one B c x = single_traced (machine B) (table_of B) (up_to c) (shows_in B) 65536 x (untold (opened B))
 
 abbrev pub all : Btf → ℕ → Explaining (Ls (Known Names))
-all B c = every_noted (machine B) (table_of B) (up_to c) (shows_in B) 65536 (opened B) true
+all B c = every_traced (machine B) (table_of B) (up_to c) (shows_in B) 65536 (opened B) true
 
 abbrev pub text : Explaining (Ls (Known Names)) → List ℕ
 text t = text_of t.answer.sess.mach.pieces

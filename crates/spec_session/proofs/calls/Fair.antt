@@ -21,7 +21,7 @@ use Rattle.spec_c_dumper.proofs.rules.Closed.{Code}
 use Rattle.spec_c_dumper.proofs.rules.Refusals.{Told, told, cut_by, Tells}
 use Rattle.btf_layout.proofs.refusals.InWork.{definition_tells, forward_tells}
 use Rattle.spec_type_table.specs.declared.types.TypeTable.{TypeTable}
-use Rattle.spec_session.specs.emission.Sheet.{Sheet, sheet_store, sheet_of, line_in, work_machine}
+use Rattle.spec_session.specs.emission.Slices.{Slices, slices_store, slices_of, line_in, work_machine}
 use Rattle.spec_c_dumper.specs.rules.Request.{listed_out, dumped}
 
 -- a refusal of a request, by its number in document 01
@@ -200,7 +200,7 @@ module _ {M : Type 0} (Good : M → Type 0) where
     fair_dumped m x g = fair_listed (order X.store 512 T m x false) (fair_order X.store L.mark_good L.push_good 512 T m x false g)
 
 -- ---- over the lent slices: the text has k bytes, and the place is not past its end
-abbrev pub Inside : ℕ → Sheet → Type 0
+abbrev pub Inside : ℕ → Slices → Type 0
 Inside k m = (m.at ≤ length m.text) × (length m.text ≡ k)
 
 listed_code : (c : ℕ) → Code c → Listed c
@@ -211,32 +211,32 @@ listed_code c (inr (inr (inr e))) = (omega arith, omega arith)
 
 -- a line, where there is a place for it
 module _ (n : ℕ) (t : List ℕ) (at : ℕ) (h : at ≤ length t) (k : ℕ) (long : length t ≡ k) (u : List ℕ) where
-  fair_told : (x : Text) → length (bytes x) ≤ length t - at → Told x → Fair (Inside k) (sheet_of n (with_names u (written t at x)))
-  unfolding sheet_of with_names written bytes
+  fair_told : (x : Text) → length (bytes x) ≤ length t - at → Told x → Fair (Inside k) (slices_of n (with_names u (written t at x)))
+  unfolding slices_of with_names written bytes
   fair_told _ l (told a) = goes (record { work = u; text = place t at a; at = at + length a; len = n }) (omega (arith, place_length t at a (omega arith)), place_length t at a (omega arith) ∙ long)
   fair_told _ l (cut_by a c q) = stops c (listed_code c q)
 
-  fair_full : Fair (Inside k) (sheet_of n (with_names u (stopped 17)))
-  unfolding sheet_of with_names
+  fair_full : Fair (Inside k) (slices_of n (with_names u (stopped 17)))
+  unfolding slices_of with_names
   fair_full = stops 17 (omega arith, omega arith)
 
-  fair_put : (x : Text) → Told x → Fair (Inside k) (sheet_of n (with_names u (put_text t (Ok at) x)))
+  fair_put : (x : Text) → Told x → Fair (Inside k) (slices_of n (with_names u (put_text t (Ok at) x)))
   fair_put x q =
       ⊎_elim
       (λ l. rw (put_none t at x l) fair_full)
       (λ l. rw (put_fits t at x l) (fair_told x l q))
       (cases_lt (length t - at) (length (bytes x)))
 
-pub fair_line : (k : ℕ) (v : Writer (List ℕ)) → Tells v → (m : Sheet) → Inside k m → Fair (Inside k) (line_in v m)
+pub fair_line : (k : ℕ) (v : Writer (List ℕ)) → Tells v → (m : Slices) → Inside k m → Fair (Inside k) (line_in v m)
 unfolding line_in put_said said_text
 fair_line k v h m g = go (v m.work) (h m.work)
   where
-    go : (q : Said (List ℕ)) → Told (said_text q) → Fair (Inside k) (sheet_of m.len (put_said m.text (Ok m.at) q))
+    go : (q : Said (List ℕ)) → Told (said_text q) → Fair (Inside k) (slices_of m.len (put_said m.text (Ok m.at) q))
     go (said u x) q = fair_put m.len m.text m.at g.0 k g.1 u x q
 
 module _ (b : TypeTable) (B : Rules) where
   fairly : (k : ℕ) → Fairly (Inside k) (work_machine b B)
-  unfolding work_machine sheet_store
+  unfolding work_machine slices_store
   fairly k = record {
     mark_good = λ j x m g. g;
     push_good = λ x m g. g;
@@ -249,5 +249,5 @@ module _ (b : TypeTable) (B : Rules) where
     body_fair = λ m x g. fair_line k _ (definition_tells b B x (B.type_by_id x)) m g;
   }
 
-  pub fair_request : (k : ℕ) (m : Sheet) (x : ℕ) → Inside k m → Fair (Inside k) (dumped (work_machine b B) (table_of B) m x)
+  pub fair_request : (k : ℕ) (m : Slices) (x : ℕ) → Inside k m → Fair (Inside k) (dumped (work_machine b B) (table_of B) m x)
   fair_request k m x g = fair_dumped (Inside k) (work_machine b B) (table_of B) (fairly k) m x g

@@ -26,7 +26,7 @@ use Rattle.btf_open_causes.specs.declared.records.Counts.{Counts}
 use Rattle.spec_opening.specs.Causes.{opening_number}
 use Rattle.spec_opening.specs.Table.{types_of, enumerators_of}
 use Rattle.spec_opening.specs.Opened.{refused, opened, open_out, opening_of, work_of}
-use Rattle.spec_session.specs.emission.Sheet.{Sheet, sheet_store, emptied, emit_out, work_machine, is_ignored, is_idle}
+use Rattle.spec_session.specs.emission.Slices.{Slices, slices_store, emptied, emit_out, work_machine, is_ignored, is_idle}
 use Rattle.spec_c_dumper.specs.rules.Request.{listed_out, dumped}
 use Rattle.spec_session.specs.session.Answers.{Accepted, answer_is, answer_of}
 use Rattle.spec_session.specs.declared.session.Session.{Session}
@@ -93,16 +93,16 @@ module _ (p modes : ℕ) (s w t : List ℕ) where
     open_sound n e r = ap (opened_call r (length s) (length w) p modes) (sym (ap (λ (q : Result Counts Refusal). open_out q w' t') e) ∙ eo)
 
 -- ---- one request
-abbrev sheet_or : Out Sheet → Sheet → Sheet
-sheet_or (wrote m) d = m
-sheet_or (stuck c) d = d
+abbrev slices_or : Out Slices → Slices → Slices
+slices_or (wrote m) d = m
+slices_or (stuck c) d = d
 
-pub stuck_listed : (k : ℕ) (o : Out Sheet) → Fair (Inside k) o → (c : ℕ) → o ≡ stuck c → Listed c
+pub stuck_listed : (k : ℕ) (o : Out Slices) → Fair (Inside k) o → (c : ℕ) → o ≡ stuck c → Listed c
 stuck_listed k _ (goes m g) c e = let z : ◌≡◌ {A = ℕ} 0 1 = cc in absurd (omega arith)
 stuck_listed k _ (stops d l) c e = let q : d ≡ c = cc in (omega arith, omega arith)
 
-wrote_inside : (k : ℕ) (o : Out Sheet) → Fair (Inside k) o → (m : Sheet) → o ≡ wrote m → Inside k m
-wrote_inside k _ (goes m g) n e = let q : m ≡ n = ap (λ (o : Out Sheet). sheet_or o m) e in subst (Inside k) q g
+wrote_inside : (k : ℕ) (o : Out Slices) → Fair (Inside k) o → (m : Slices) → o ≡ wrote m → Inside k m
+wrote_inside k _ (goes m g) n e = let q : m ≡ n = ap (λ (o : Out Slices). slices_or o m) e in subst (Inside k) q g
 wrote_inside k _ (stops d l) n e = let z : ◌≡◌ {A = ℕ} 0 1 = cc in absurd (omega arith)
 
 pub mid_place : (t u : List ℕ) (len k : ℕ) → length u ≡ k → put_mid len k t u ≡ place t len u
@@ -112,7 +112,7 @@ mid_place t u len k e =
 
 module _ (b : TypeTable) (s w : List ℕ) (id : ℕ) where
   -- the request on a slice
-  abbrev pub asked : List ℕ → Out Sheet
+  abbrev pub asked : List ℕ → Out Slices
   asked u = dumped (work_machine b (btf_of b s w)) (table_of (btf_of b s w)) (record { work = w; text = u; at = 0; len = 0 }) id
 
   pub fair_asked : (u : List ℕ) → Fair (Inside (length u)) (asked u)
@@ -171,14 +171,14 @@ lent_is b s w t len id to v el = ap (λ (z : ℕ). came_to len v t (asked b s w 
 
 -- ---- an id with nothing to write
 module _ (b : TypeTable) (s w u : List ℕ) (id : ℕ) where
-  abbrev start : Sheet
+  abbrev start : Slices
   start = record { work = w; text = u; at = 0; len = 0 }
 
-  abbrev way : Sheet → ℕ → Bool → Res Sheet
-  way m y weak = order sheet_store 511 (table_in b s w) m y weak
+  abbrev way : Slices → ℕ → Bool → Res Slices
+  way m y weak = order slices_store 511 (table_in b s w) m y weak
 
-  idle_fresh : (nd : Node) → is_ignored nd ≡ true → listed_out (work_machine b (btf_of b s w)) (table_in b s w) (fresh sheet_store (table_in b s w) way start id false nd) ≡ wrote start
-  unfolding is_ignored fresh listed_out obind eeach work_machine sheet_store work_store emptied from
+  idle_fresh : (nd : Node) → is_ignored nd ≡ true → listed_out (work_machine b (btf_of b s w)) (table_in b s w) (fresh slices_store (table_in b s w) way start id false nd) ≡ wrote start
+  unfolding is_ignored fresh listed_out obind eeach work_machine slices_store work_store emptied from
   idle_fresh ignored h = refl
   idle_fresh plain h = absurd (true≢false (sym h))
   idle_fresh (listed f) h = absurd (true≢false (sym h))
@@ -188,14 +188,14 @@ module _ (b : TypeTable) (s w u : List ℕ) (id : ℕ) where
   idle_fresh (proto ts) h = absurd (true≢false (sym h))
   idle_fresh (comp ms) h = absurd (true≢false (sym h))
 
-  idle_visit : (k : Mark) → is_idle k ((table_in b s w).node id) ≡ true → listed_out (work_machine b (btf_of b s w)) (table_in b s w) (visit sheet_store (table_in b s w) way start id false k) ≡ wrote start
-  unfolding is_idle visit listed_out obind eeach work_machine sheet_store work_store emptied from
+  idle_visit : (k : Mark) → is_idle k ((table_in b s w).node id) ≡ true → listed_out (work_machine b (btf_of b s w)) (table_in b s w) (visit slices_store (table_in b s w) way start id false k) ≡ wrote start
+  unfolding is_idle visit listed_out obind eeach work_machine slices_store work_store emptied from
   idle_visit new h = idle_fresh ((table_in b s w).node id) h
   idle_visit busy h = absurd (true≢false (sym h))
   idle_visit done h = refl
 
   idle_dumped : is_idle (mark_of (get_field w id 1)) ((table_in b s w).node id) ≡ true → asked b s w id u ≡ wrote start
-  unfolding dumped order work_machine sheet_store work_store
+  unfolding dumped order work_machine slices_store work_store
   idle_dumped h = idle_visit (mark_of (get_field w id 1)) h
 
 pub idle_reach : (b : TypeTable) (s w t : List ℕ) (len u v id : ℕ) → len ≤ length t → (q : Bool) → q ≡ is_idle (mark_of (get_field w id 1)) ((table_in b s w).node id) → q ≡ true

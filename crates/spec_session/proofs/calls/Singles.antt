@@ -31,7 +31,7 @@ use Rattle.spec_type_table.specs.Numbers.{number_at}
 use Rattle.spec_type_table.specs.Table.{btf_of, type_version_in, enumerator_of, value_version_in, work_naming}
 use Rattle.spec_type_table.proofs.Frame.{more_length}
 use Rattle.c_dumper_dependency_order.specs.order_state.Work.{work_store}
-use Rattle.spec_session.specs.emission.Sheet.{Sheet, sheet_store, sheet_of, line_in, work_machine}
+use Rattle.spec_session.specs.emission.Slices.{Slices, slices_store, slices_of, line_in, work_machine}
 use Rattle.spec_c_dumper.specs.rules.Request.{dumped}
 use Rattle.btf_open_causes.specs.header.Header.{btf_of as settings_of}
 use Rattle.spec_session.specs.declared.session.Session.{Session}
@@ -66,23 +66,23 @@ value_length types e w = go (ltb (types + e) 4294967296) refl
     go true h = rw (h, value_version_in) (counted_length types (types + e) w)
     go false h = rw (h, value_version_in)
 
-abbrev Sized : ℕ → ℕ → Sheet → Type 0
+abbrev Sized : ℕ → ℕ → Slices → Type 0
 Sized k j m = (m.at ≤ length m.text) × (length m.text ≡ k) × (length m.work ≡ j)
 
-sized_out : (k j n : ℕ) (u : List ℕ) → length u ≡ j → (o : TextOut) → Fair (Inside k) (sheet_of n (with_names u o)) → Fair (Sized k j) (sheet_of n (with_names u o))
-unfolding sheet_of with_names
+sized_out : (k j n : ℕ) (u : List ℕ) → length u ≡ j → (o : TextOut) → Fair (Inside k) (slices_of n (with_names u o)) → Fair (Sized k j) (slices_of n (with_names u o))
+unfolding slices_of with_names
 sized_out k j n u e (written_to t at) (goes _ g) = goes _ (g.0, g.1, e)
 sized_out k j n u e (stopped c) (stops _ l) = stops c l
 
-sized_line : (k j : ℕ) (v : Writer (List ℕ)) → Tells v → Keeps (λ (u : List ℕ). length u) v → (m : Sheet) → Sized k j m → Fair (Sized k j) (line_in v m)
+sized_line : (k j : ℕ) (v : Writer (List ℕ)) → Tells v → Keeps (λ (u : List ℕ). length u) v → (m : Slices) → Sized k j m → Fair (Sized k j) (line_in v m)
 unfolding line_in put_said said_names
 sized_line k j v h keeps m g = go (v m.work) refl
   where
     go : (q : Said (List ℕ)) → v m.work ≡ q → Fair (Sized k j) (line_in v m)
     go (said u x) e =
         let same : length u ≡ j = sym (ap (λ (s : Said (List ℕ)). length (said_names s)) e) ∙ keeps m.work ∙ g.2 in
-        subst (λ (s : Said (List ℕ)). Fair (Sized k j) (sheet_of m.len (put_said m.text (Ok m.at) s))) (sym e)
-        (sized_out k j m.len u same _ (subst (λ (s : Said (List ℕ)). Fair (Inside k) (sheet_of m.len (put_said m.text (Ok m.at) s))) e (fair_line k v h m (g.0, g.1))))
+        subst (λ (s : Said (List ℕ)). Fair (Sized k j) (slices_of m.len (put_said m.text (Ok m.at) s))) (sym e)
+        (sized_out k j m.len u same _ (subst (λ (s : Said (List ℕ)). Fair (Inside k) (slices_of m.len (put_said m.text (Ok m.at) s))) e (fair_line k v h m (g.0, g.1))))
 
 module _ (b : TypeTable) (B : Rules) where
   keeps_def : (x : ℕ) → Keeps (λ (u : List ℕ). length u) (definition_once (work_asks b.types B) (work_naming b) B x (B.type_by_id x))
@@ -94,7 +94,7 @@ module _ (b : TypeTable) (B : Rules) where
   keeps_fwd x = forward_keeps (λ (u : List ℕ). length u) (λ w v. put_length w (0 * 16 + 2) v) (λ w x v. put_length w (x * 16 + 15) v) b B (λ space id name w. type_length b.types id w) (λ id i name w. value_length b.types (enumerator_of w id i) w) x (B.type_by_id x)
 
   sized : (k j : ℕ) → Fairly (Sized k j) (work_machine b B)
-  unfolding work_machine sheet_store work_store
+  unfolding work_machine slices_store work_store
   sized k j = record {
     mark_good = λ s x m g. (g.0, g.1, put_length m.work (x * 16 + 1) _ ∙ g.2);
     push_good = λ x m g. (g.0, g.1, put_length m.work (m.len * 16 + 11) x ∙ g.2);
@@ -125,7 +125,7 @@ placed_take t u len at h k =
     ∙ ap (λ (l : List ℕ). take len t ++ l) (take-append-le at u (drop (len + length u) t) k)
 
 module _ (wn tn len : ℕ) (t t' : List ℕ) (lt : length t ≡ tn) (lt' : length t' ≡ tn) (high : len ≤ tn) (same : take len t ≡ take len t') where
-  came_pair : (v k : ℕ) → len + k ≤ tn → (o o' : Out Sheet) → Both Like o o' → Fair (Sized k wn) o → Pair wn tn (came_to len v t o) (came_to len v t' o')
+  came_pair : (v k : ℕ) → len + k ≤ tn → (o o' : Out Slices) → Both Like o o' → Fair (Sized k wn) o → Pair wn tn (came_to len v t o) (came_to len v t' o')
   unfolding came_to
   came_pair v k fits _ _ (go_both _ _ (like w u u' at ln h long eq)) (goes _ g) =
       let room : len + length u ≤ length t = omega (arith, g.1) in

@@ -20,7 +20,7 @@ use Rattle.spec_c_dumper.specs.rules.Types.{Btf as Rules, table_of}
 use Rattle.spec_c_dumper.specs.rules.Writer.{Said, said, Writer}
 use Rattle.spec_c_dumper.specs.rules.Place.{with_names, put_said}
 use Rattle.spec_type_table.specs.declared.types.TypeTable.{TypeTable}
-use Rattle.spec_session.specs.emission.Sheet.{Sheet, sheet_store, sheet_of, line_in, work_machine}
+use Rattle.spec_session.specs.emission.Slices.{Slices, slices_store, slices_of, line_in, work_machine}
 use Rattle.spec_c_dumper.specs.rules.Request.{listed_out, dumped}
 
 module _ {M : Type 0} (R : M → M → Type 0) where
@@ -221,7 +221,7 @@ module _ {M : Type 0} (R : M → M → Type 0) where
     both_dumped m m' x g = both_listed (order K 512 T m x false) (order K 512 T m' x false) (both_order 512 m m' x false g)
 
 -- ---- over the lent slices: two sheets that differ only past the place
-pub data Like : Sheet → Sheet → Type 0 where
+pub data Like : Slices → Slices → Type 0 where
   like : (w t t' : List ℕ) (at len : ℕ) → at ≤ length t → length t ≡ length t' → take at t ≡ take at t' → Like (record { work = w; text = t; at = at; len = len }) (record { work = w; text = t'; at = at; len = len })
 
 -- the bytes up to the end of what was placed
@@ -229,8 +229,8 @@ placed_head : (t : List ℕ) (at : ℕ) (a : List ℕ) → at ≤ length t → t
 placed_head t at a h = take_at (take at t ++ a) (drop (at + length a) t) (at + length a) (length-append (take at t) a ∙ ap (λ (k : ℕ). k + length a) (length-take-le at t h))
 
 module _ (n : ℕ) (t t' : List ℕ) (at : ℕ) (h : at ≤ length t) (long : length t ≡ length t') (same : take at t ≡ take at t') (u : List ℕ) where
-  both_written : (x : Text) → length (bytes x) ≤ length t - at → Both Like (sheet_of n (with_names u (written t at x))) (sheet_of n (with_names u (written t' at x)))
-  unfolding sheet_of with_names written bytes
+  both_written : (x : Text) → length (bytes x) ≤ length t - at → Both Like (slices_of n (with_names u (written t at x))) (slices_of n (with_names u (written t' at x)))
+  unfolding slices_of with_names written bytes
   both_written (whole a) l =
       let l' : at + length a ≤ length t' = omega arith in
       goes (record { work = u; text = place t at a; at = at + length a; len = n }) (record { work = u; text = place t' at a; at = at + length a; len = n })
@@ -238,32 +238,32 @@ module _ (n : ℕ) (t t' : List ℕ) (at : ℕ) (h : at ≤ length t) (long : le
       (placed_head t at a h ∙ ap (λ (p : List ℕ). p ++ a) same ∙ sym (placed_head t' at a (omega arith))))
   both_written (cut a c) l = stops c
 
-  both_full : Both Like (sheet_of n (with_names u (stopped 17))) (sheet_of n (with_names u (stopped 17)))
-  unfolding sheet_of with_names
+  both_full : Both Like (slices_of n (with_names u (stopped 17))) (slices_of n (with_names u (stopped 17)))
+  unfolding slices_of with_names
   both_full = stops 17
 
-  both_put : (x : Text) → Both Like (sheet_of n (with_names u (put_text t (Ok at) x))) (sheet_of n (with_names u (put_text t' (Ok at) x)))
+  both_put : (x : Text) → Both Like (slices_of n (with_names u (put_text t (Ok at) x))) (slices_of n (with_names u (put_text t' (Ok at) x)))
   both_put x =
       ⊎_elim
       (λ l. rw (put_none t at x l, put_none t' at x (omega arith)) both_full)
       (λ l. rw (put_fits t at x l, put_fits t' at x (omega arith)) (both_written x l))
       (cases_lt (length t - at) (length (bytes x)))
 
-both_line : (v : Writer (List ℕ)) (m m' : Sheet) → Like m m' → Both Like (line_in v m) (line_in v m')
+both_line : (v : Writer (List ℕ)) (m m' : Slices) → Like m m' → Both Like (line_in v m) (line_in v m')
 unfolding line_in put_said
 both_line v _ _ (like w t t' at len h long same) = go (v w)
   where
-    go : (q : Said (List ℕ)) → Both Like (sheet_of len (put_said t (Ok at) q)) (sheet_of len (put_said t' (Ok at) q))
+    go : (q : Said (List ℕ)) → Both Like (slices_of len (put_said t (Ok at) q)) (slices_of len (put_said t' (Ok at) q))
     go (said u x) = both_put len t t' at h long same u x
 
 module _ (b : TypeTable) (B : Rules) where
   alike : Alike Like (work_machine b B)
-  unfolding work_machine sheet_store
+  unfolding work_machine slices_store
   alike = record {
-    get_same = λ m m' x g. elim g as (λ n n' _. sheet_store.get n x ≡ sheet_store.get n' x) [ like w t t' at len h long same ↦ refl ];
-    list_same = λ m m' g. elim g as (λ n n' _. sheet_store.list n ≡ sheet_store.list n') [ like w t t' at len h long same ↦ refl ];
-    mark_both = λ k x m m' g. elim g as (λ n n' _. Like (sheet_store.mark k x n) (sheet_store.mark k x n')) [ like w t t' at len h long same ↦ like _ t t' at _ h long same ];
-    push_both = λ x m m' g. elim g as (λ n n' _. Like (sheet_store.push x n) (sheet_store.push x n')) [ like w t t' at len h long same ↦ like _ t t' at _ h long same ];
+    get_same = λ m m' x g. elim g as (λ n n' _. slices_store.get n x ≡ slices_store.get n' x) [ like w t t' at len h long same ↦ refl ];
+    list_same = λ m m' g. elim g as (λ n n' _. slices_store.list n ≡ slices_store.list n') [ like w t t' at len h long same ↦ refl ];
+    mark_both = λ k x m m' g. elim g as (λ n n' _. Like (slices_store.mark k x n) (slices_store.mark k x n')) [ like w t t' at len h long same ↦ like _ t t' at _ h long same ];
+    push_both = λ x m m' g. elim g as (λ n n' _. Like (slices_store.push x n) (slices_store.push x n')) [ like w t t' at len h long same ↦ like _ t t' at _ h long same ];
     start_both = λ room m m' g. elim g as (λ n n' _. Like ((work_machine b B).start room n) ((work_machine b B).start room n')) [ like w t t' at len h long same ↦ like _ t t' at _ h long same ];
     eget_same = λ m m' x g. elim g as (λ n n' _. (work_machine b B).eget n x ≡ (work_machine b B).eget n' x) [ like w t t' at len h long same ↦ refl ];
     emark_both = λ k x m m' g. elim g as (λ n n' _. Like ((work_machine b B).emark k x n) ((work_machine b B).emark k x n')) [ like w t t' at len h long same ↦ like _ t t' at _ h long same ];

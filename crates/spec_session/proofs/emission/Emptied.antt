@@ -4,7 +4,7 @@ use mathlib.Core.Path.{◌≡◌, refl, ap, ◌∙◌}
 use mathlib.Core.List.{List}
 use native.Mathlib.Numerals.{add-one}
 use Rattle.spec_type_table.specs.Cells.{put_field}
-use Rattle.spec_session.specs.emission.Sheet.{emptied}
+use Rattle.spec_session.specs.emission.Slices.{emptied}
 
 pub emptied_none : (w : List ℕ) → w ≡ emptied 0 w
 unfolding emptied

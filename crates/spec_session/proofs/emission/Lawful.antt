@@ -34,7 +34,7 @@ use Rattle.spec_type_table.proofs.Laws.{place_type, place_enum}
 use Rattle.spec_type_table.proofs.Frame.{field_other, counted_other, more_length}
 use Rattle.c_dumper_dependency_order.specs.order_state.Work.{Marks, mark_of, code, work_store}
 use Rattle.c_dumper_dependency_order.proofs.order_state.Lawful.{work_lawful, mark_code}
-use Rattle.spec_session.specs.emission.Sheet.{Sheet, marks_in, sheet_store, emptied, sheet_of, line_in, work_machine}
+use Rattle.spec_session.specs.emission.Slices.{Slices, marks_in, slices_store, emptied, slices_of, line_in, work_machine}
 use Rattle.spec_c_dumper.specs.rules.Request.{dumped}
 use Rattle.spec_session.specs.emission.Tagged.{Tagged, tagged, tagged_machine}
 use Rattle.spec_c_dumper.proofs.rules.Maps.{omap, StoreMap, MachineMap, map_dumped}
@@ -118,8 +118,8 @@ apart_13 types c j e =
     (cases_lt c types)
 
 -- ---- a line
-pub data Line (m : Sheet) : Out Sheet → Type 0 where
-  lined : {m' : Sheet} → length m'.work ≡ length m.work → words 1 m'.work ≡ words 1 m.work → words 13 m'.work ≡ words 13 m.work → m'.at ≤ length m'.text → Line m (wrote m')
+pub data Line (m : Slices) : Out Slices → Type 0 where
+  lined : {m' : Slices} → length m'.work ≡ length m.work → words 1 m'.work ≡ words 1 m.work → words 13 m'.work ≡ words 13 m.work → m'.at ≤ length m'.text → Line m (wrote m')
   unlined : {c : ℕ} → Fine c → Line m (stuck c)
 
 17_fine : Fine 17
@@ -131,29 +131,29 @@ code_fine c (inr (inl e)) f = omega arith
 code_fine c (inr (inr (inl e))) f = omega arith
 code_fine c (inr (inr (inr e))) f = omega arith
 
-module _ (m : Sheet) (inside : m.at ≤ length m.text) (u : List ℕ) (long : length u ≡ length m.work) (one : words 1 u ≡ words 1 m.work) (state : words 13 u ≡ words 13 m.work) where
-  put_line : (x : Text) → Told x → Line m (sheet_of m.len (with_names u (put_text m.text (Ok m.at) x)))
-  unfolding sheet_of with_names written bytes
+module _ (m : Slices) (inside : m.at ≤ length m.text) (u : List ℕ) (long : length u ≡ length m.work) (one : words 1 u ≡ words 1 m.work) (state : words 13 u ≡ words 13 m.work) where
+  put_line : (x : Text) → Told x → Line m (slices_of m.len (with_names u (put_text m.text (Ok m.at) x)))
+  unfolding slices_of with_names written bytes
   put_line _ (told a) =
       ⊎_elim
-      (λ l. subst (λ (o : TextOut). Line m (sheet_of m.len (with_names u o))) (sym (put_none m.text m.at (whole a) l)) (unlined 17_fine))
-      (λ l. subst (λ (o : TextOut). Line m (sheet_of m.len (with_names u o))) (sym (put_fits m.text m.at (whole a) l)) (lined long one state (omega (arith, place_length m.text m.at a (omega arith)))))
+      (λ l. subst (λ (o : TextOut). Line m (slices_of m.len (with_names u o))) (sym (put_none m.text m.at (whole a) l)) (unlined 17_fine))
+      (λ l. subst (λ (o : TextOut). Line m (slices_of m.len (with_names u o))) (sym (put_fits m.text m.at (whole a) l)) (lined long one state (omega (arith, place_length m.text m.at a (omega arith)))))
       (cases_lt (length m.text - m.at) (length a))
   put_line _ (cut_by a c q) =
       ⊎_elim
-      (λ l. subst (λ (o : TextOut). Line m (sheet_of m.len (with_names u o))) (sym (put_none m.text m.at (cut a c) l)) (unlined 17_fine))
-      (λ l. subst (λ (o : TextOut). Line m (sheet_of m.len (with_names u o))) (sym (put_fits m.text m.at (cut a c) l)) (unlined (code_fine c q)))
+      (λ l. subst (λ (o : TextOut). Line m (slices_of m.len (with_names u o))) (sym (put_none m.text m.at (cut a c) l)) (unlined 17_fine))
+      (λ l. subst (λ (o : TextOut). Line m (slices_of m.len (with_names u o))) (sym (put_fits m.text m.at (cut a c) l)) (unlined (code_fine c q)))
       (cases_lt (length m.text - m.at) (length a))
 
-line_holds : (v : Writer (List ℕ)) → Keeps length v → Keeps (words 1) v → Keeps (words 13) v → Tells v → (m : Sheet) → m.at ≤ length m.text → Line m (line_in v m)
+line_holds : (v : Writer (List ℕ)) → Keeps length v → Keeps (words 1) v → Keeps (words 13) v → Tells v → (m : Slices) → m.at ≤ length m.text → Line m (line_in v m)
 unfolding line_in put_said said_names said_text
 line_holds v long one state tells m inside = go (v m.work) (long m.work) (one m.work) (state m.work) (tells m.work)
   where
     go : (s : Said (List ℕ)) → length (said_names s) ≡ length m.work → words 1 (said_names s) ≡ words 1 m.work → words 13 (said_names s) ≡ words 13 m.work → Told (said_text s)
-        → Line m (sheet_of m.len (put_said m.text (Ok m.at) s))
+        → Line m (slices_of m.len (put_said m.text (Ok m.at) s))
     go (said u x) a b c h = put_line m inside u a b c x h
 
-module _ (b : TypeTable) (B : Rules) (m : Sheet) (inside : m.at ≤ length m.text) (x : ℕ) where
+module _ (b : TypeTable) (B : Rules) (m : Slices) (inside : m.at ≤ length m.text) (x : ℕ) where
   forward_line : Line m (line_in (forward_once (work_asks b.types B) (work_naming b) B x (B.type_by_id x)) m)
   forward_line = line_holds (forward_once (work_asks b.types B) (work_naming b) B x (B.type_by_id x))
       (forward_keeps length (λ w i v. put_length w (i * 16 + 4) v) count_length (λ w x f v q. put_length w (x * 16 + f) v) b B x (B.type_by_id x))
@@ -187,18 +187,18 @@ emptied_13 (suc n) w k = field_other (emptied n w) n 11 0 k 13 (omega arith) (om
 -- ---- the machine
 module _ (n : ℕ) where
   pub record Fit (m : Tagged) : Type 0 where
-    pub long : 64 * n ≤ length m.sheet.work
-    pub inside : m.sheet.at ≤ length m.sheet.text
+    pub long : 64 * n ≤ length m.slices.work
+    pub inside : m.slices.at ≤ length m.slices.text
 
   module _ (small : n ≤ 4294967295) (b : TypeTable) (B : Rules) where
     abbrev X : Machine Tagged
     X = tagged_machine b B
 
     abbrev marks_of : Tagged → Marks
-    marks_of m = marks_in m.sheet
+    marks_of m = marks_in m.slices
 
     store_lawful : Lawful X.store n Fit
-    unfolding tagged_machine sheet_store
+    unfolding tagged_machine slices_store
     store_lawful = record {
       mark_good = λ k x m g l. record { long = (work_lawful n small).mark_good k x (marks_of m) g.long l; inside = g.inside };
       mark_same = λ k x m g l. (work_lawful n small).mark_same k x (marks_of m) g.long l;
@@ -210,18 +210,18 @@ module _ (n : ℕ) where
     }
 
     store_framed : Framed X.store n Fit (OrderKeeps X Fit)
-    unfolding tagged_machine sheet_store work_store work_machine
+    unfolding tagged_machine slices_store work_store work_machine
     store_framed = record {
       fr_same = λ m. record { egets = λ d. refl; tags_same = refl };
       fr_then = λ p q r f h. record { egets = λ d. h.egets d ∙ f.egets d; tags_same = h.tags_same ∙ f.tags_same };
-      fr_mark = λ k x m g l. record { egets = λ d. ap mark_of (field_other m.sheet.work x 1 (code k) d 13 (omega arith) (omega arith) (λ e. omega arith)); tags_same = refl };
-      fr_push = λ x m g l r. record { egets = λ d. ap mark_of (field_other m.sheet.work m.sheet.len 11 x d 13 (omega arith) (omega arith) (λ e. omega arith)); tags_same = refl };
+      fr_mark = λ k x m g l. record { egets = λ d. ap mark_of (field_other m.slices.work x 1 (code k) d 13 (omega arith) (omega arith) (λ e. omega arith)); tags_same = refl };
+      fr_push = λ x m g l r. record { egets = λ d. ap mark_of (field_other m.slices.work m.slices.len 11 x d 13 (omega arith) (omega arith) (λ e. omega arith)); tags_same = refl };
     }
 
     -- a line that defines nothing, and one that defines x
-    line_same : (m : Tagged) → Fit m → (o : Out Sheet) → Line m.sheet o → OHolds (Same X Fit m) (tagged m.tags o)
-    unfolding tagged tagged_machine sheet_store work_store work_machine
-    line_same m g (wrote m') (lined a c d i) = ogood {s = record { sheet = m'; tags = m.tags }} (record {
+    line_same : (m : Tagged) → Fit m → (o : Out Slices) → Line m.slices o → OHolds (Same X Fit m) (tagged m.tags o)
+    unfolding tagged tagged_machine slices_store work_store work_machine
+    line_same m g (wrote m') (lined a c d i) = ogood {s = record { slices = m'; tags = m.tags }} (record {
       good = record { long = omega (arith, a, g.long); inside = i };
       gets = λ k. ap mark_of (ap (λ (f : ℕ → ℕ). f k) c);
       egets = λ k. ap mark_of (ap (λ (f : ℕ → ℕ). f k) d);
@@ -229,9 +229,9 @@ module _ (n : ℕ) where
     })
     line_same m g (stuck e) (unlined q) = obad q
 
-    line_defines : (m : Tagged) (x : ℕ) → Fit m → (o : Out Sheet) → Line m.sheet o → OHolds (Defines X Fit x m) (tagged (m.tags ++ (x ∷ [])) o)
-    unfolding tagged tagged_machine sheet_store work_store work_machine
-    line_defines m x g (wrote m') (lined a c d i) = ogood {s = record { sheet = m'; tags = m.tags ++ (x ∷ []) }} (record {
+    line_defines : (m : Tagged) (x : ℕ) → Fit m → (o : Out Slices) → Line m.slices o → OHolds (Defines X Fit x m) (tagged (m.tags ++ (x ∷ [])) o)
+    unfolding tagged tagged_machine slices_store work_store work_machine
+    line_defines m x g (wrote m') (lined a c d i) = ogood {s = record { slices = m'; tags = m.tags ++ (x ∷ []) }} (record {
       good = record { long = omega (arith, a, g.long); inside = i };
       gets = λ k. ap mark_of (ap (λ (f : ℕ → ℕ). f k) c);
       egets = λ k. ap mark_of (ap (λ (f : ℕ → ℕ). f k) d);
@@ -240,45 +240,45 @@ module _ (n : ℕ) where
     line_defines m x g (stuck e) (unlined q) = obad q
 
     pub machine_lawful : MLawful X Fit n
-    unfolding tagged_machine sheet_store work_store work_machine from
+    unfolding tagged_machine slices_store work_store work_machine from
     machine_lawful = record {
       law = store_lawful;
       framed = store_framed;
       start_same = λ room m g. record {
-        good = record { long = omega (arith, emptied_length m.sheet.len m.sheet.work, g.long); inside = g.inside };
-        gets = λ d. ap mark_of (emptied_words 1 (omega arith) m.sheet.len m.sheet.work d);
-        egets = λ d. ap mark_of (emptied_13 m.sheet.len m.sheet.work d);
+        good = record { long = omega (arith, emptied_length m.slices.len m.slices.work, g.long); inside = g.inside };
+        gets = λ d. ap mark_of (emptied_words 1 (omega arith) m.slices.len m.slices.work d);
+        egets = λ d. ap mark_of (emptied_13 m.slices.len m.slices.work d);
         tags_same = refl;
       };
       start_list = λ room m g. refl;
-      emark_good = λ k x m g l. record { long = omega (arith, put_length m.sheet.work (x * 16 + 13) (code k), g.long); inside = g.inside };
-      emark_gets = λ k x m g l d. ap mark_of (field_other m.sheet.work x 13 (code k) d 1 (omega arith) (omega arith) (λ e. omega arith));
+      emark_good = λ k x m g l. record { long = omega (arith, put_length m.slices.work (x * 16 + 13) (code k), g.long); inside = g.inside };
+      emark_gets = λ k x m g l d. ap mark_of (field_other m.slices.work x 13 (code k) d 1 (omega arith) (omega arith) (λ e. omega arith));
       emark_tags = λ k x m g l. refl;
-      emark_same = λ k x m g l. ap mark_of (get_put_same m.sheet.work (x * 16 + 13) (code k) (omega (arith, g.long))) ∙ mark_code k;
-      emark_other = λ k x m g l d q. ap mark_of (get_put_other m.sheet.work (x * 16 + 13) (d * 16 + 13) (code k) (λ e. q (omega arith)));
+      emark_same = λ k x m g l. ap mark_of (get_put_same m.slices.work (x * 16 + 13) (code k) (omega (arith, g.long))) ∙ mark_code k;
+      emark_other = λ k x m g l d q. ap mark_of (get_put_other m.slices.work (x * 16 + 13) (d * 16 + 13) (code k) (λ e. q (omega arith)));
       forwarded_same = λ x m g l. record {
-        good = record { long = omega (arith, put_length m.sheet.work (x * 16 + 3) 1, g.long); inside = g.inside };
-        gets = λ d. ap mark_of (field_other m.sheet.work x 3 1 d 1 (omega arith) (omega arith) (λ e. omega arith));
-        egets = λ d. ap mark_of (field_other m.sheet.work x 3 1 d 13 (omega arith) (omega arith) (λ e. omega arith));
+        good = record { long = omega (arith, put_length m.slices.work (x * 16 + 3) 1, g.long); inside = g.inside };
+        gets = λ d. ap mark_of (field_other m.slices.work x 3 1 d 1 (omega arith) (omega arith) (λ e. omega arith));
+        egets = λ d. ap mark_of (field_other m.slices.work x 3 1 d 13 (omega arith) (omega arith) (λ e. omega arith));
         tags_same = refl;
       };
-      fwd_same = λ m x g l. line_same m g (line_in (forward_once (work_asks b.types B) (work_naming b) B x (B.type_by_id x)) m.sheet) (forward_line b B m.sheet g.inside x);
-      alias_same = λ m x g l. line_same m g (line_in (forward_once (work_asks b.types B) (work_naming b) B x (B.type_by_id x)) m.sheet) (forward_line b B m.sheet g.inside x);
-      leaf_same = λ m x g l. line_same m g (line_in (definition_once (work_asks b.types B) (work_naming b) B x (B.type_by_id x)) m.sheet) (definition_line b B m.sheet g.inside x);
-      body_defines = λ m x g l. line_defines m x g (line_in (definition_once (work_asks b.types B) (work_naming b) B x (B.type_by_id x)) m.sheet) (definition_line b B m.sheet g.inside x);
+      fwd_same = λ m x g l. line_same m g (line_in (forward_once (work_asks b.types B) (work_naming b) B x (B.type_by_id x)) m.slices) (forward_line b B m.slices g.inside x);
+      alias_same = λ m x g l. line_same m g (line_in (forward_once (work_asks b.types B) (work_naming b) B x (B.type_by_id x)) m.slices) (forward_line b B m.slices g.inside x);
+      leaf_same = λ m x g l. line_same m g (line_in (definition_once (work_asks b.types B) (work_naming b) B x (B.type_by_id x)) m.slices) (definition_line b B m.slices g.inside x);
+      body_defines = λ m x g l. line_defines m x g (line_in (definition_once (work_asks b.types B) (work_naming b) B x (B.type_by_id x)) m.slices) (definition_line b B m.slices g.inside x);
     }
 
 -- ---- what it does to the sheet is what the code's machine does
-sheet_out : (ts : List ℕ) (o : Out Sheet) → o ≡ omap (λ (m : Tagged). m.sheet) (tagged ts o)
+slices_out : (ts : List ℕ) (o : Out Slices) → o ≡ omap (λ (m : Tagged). m.slices) (tagged ts o)
 unfolding tagged
-sheet_out ts (wrote m) = refl
-sheet_out ts (stuck c) = refl
+slices_out ts (wrote m) = refl
+slices_out ts (stuck c) = refl
 
-store_map : (b : TypeTable) (B : Rules) → StoreMap (tagged_machine b B).store (work_machine b B).store (λ m. m.sheet)
+store_map : (b : TypeTable) (B : Rules) → StoreMap (tagged_machine b B).store (work_machine b B).store (λ m. m.slices)
 unfolding tagged_machine work_machine
 store_map b B = record { gets = λ m x. refl; marks = λ k x m. refl; pushes = λ x m. refl; lists = λ m. refl }
 
-pub tagged_map : (b : TypeTable) (B : Rules) → MachineMap (tagged_machine b B) (work_machine b B) (λ m. m.sheet)
+pub tagged_map : (b : TypeTable) (B : Rules) → MachineMap (tagged_machine b B) (work_machine b B) (λ m. m.slices)
 unfolding tagged_machine
 tagged_map b B = record {
   stores = store_map b B;
@@ -287,12 +287,12 @@ tagged_map b B = record {
   emarks = λ k x m. refl;
   flags = λ m x. refl;
   flagged = λ x m. refl;
-  fwd_lines = λ m x. sheet_out m.tags ((work_machine b B).fwd_line m.sheet x);
-  alias_lines = λ m x. sheet_out m.tags ((work_machine b B).alias_line m.sheet x);
-  leaf_lines = λ m x. sheet_out m.tags ((work_machine b B).leaf_line m.sheet x);
-  bodies = λ m x. sheet_out (m.tags ++ (x ∷ [])) ((work_machine b B).body m.sheet x);
+  fwd_lines = λ m x. slices_out m.tags ((work_machine b B).fwd_line m.slices x);
+  alias_lines = λ m x. slices_out m.tags ((work_machine b B).alias_line m.slices x);
+  leaf_lines = λ m x. slices_out m.tags ((work_machine b B).leaf_line m.slices x);
+  bodies = λ m x. slices_out (m.tags ++ (x ∷ [])) ((work_machine b B).body m.slices x);
 }
 
 -- so a request of the one, seen without the tags, is a request of the other
-pub tagged_dumped : (b : TypeTable) (B : Rules) (T : Table) (m : Tagged) (x : ℕ) → dumped (work_machine b B) T m.sheet x ≡ omap (λ (m' : Tagged). m'.sheet) (dumped (tagged_machine b B) T m x)
-tagged_dumped b B T m x = map_dumped (tagged_machine b B) (work_machine b B) (λ m'. m'.sheet) (tagged_map b B) T m x
+pub tagged_dumped : (b : TypeTable) (B : Rules) (T : Table) (m : Tagged) (x : ℕ) → dumped (work_machine b B) T m.slices x ≡ omap (λ (m' : Tagged). m'.slices) (dumped (tagged_machine b B) T m x)
+tagged_dumped b B T m x = map_dumped (tagged_machine b B) (work_machine b B) (λ m'. m'.slices) (tagged_map b B) T m x

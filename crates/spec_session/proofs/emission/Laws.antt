@@ -8,28 +8,28 @@ use Rattle.spec_bytes.specs.declared.refusal.Refusal.{Refusal}
 use Rattle.spec_bytes.specs.text.Placed.{Placed, put_out}
 use Rattle.spec_c_dumper.specs.rules.Machine.{Out, wrote, stuck, obind}
 use Rattle.spec_c_dumper.specs.rules.Place.{with_names, out_of}
-use Rattle.spec_session.specs.emission.Sheet.{Sheet, sheet_of, emit_out}
+use Rattle.spec_session.specs.emission.Slices.{Slices, slices_of, emit_out}
 
-abbrev pub sheet : ℕ → ℕ → List ℕ → List ℕ → Sheet
-sheet n at t w = record { work = w; text = t; at = at; len = n }
+abbrev pub slices : ℕ → ℕ → List ℕ → List ℕ → Slices
+slices n at t w = record { work = w; text = t; at = at; len = n }
 
 -- ---- a place, or a refusal
-pub goes : (n at : ℕ) (t w : List ℕ) → emit_out n (Ok at) t w ≡ wrote (sheet n at t w)
-unfolding out_of with_names sheet_of put_out
+pub goes : (n at : ℕ) (t w : List ℕ) → emit_out n (Ok at) t w ≡ wrote (slices n at t w)
+unfolding out_of with_names slices_of put_out
 goes n at t w = refl
 
 pub halts : (n : ℕ) (c : Refusal) (t w : List ℕ) → emit_out n (Err c) t w ≡ stuck (refusal_number c)
-unfolding out_of with_names sheet_of put_out
+unfolding out_of with_names slices_of put_out
 halts n c t w = refl
 
 -- ---- obind
-pub obind_then : (o : Out Sheet) (k k' : Sheet → Out Sheet) → obind (obind o k) k' ≡ obind o (λ m. obind (k m) k')
+pub obind_then : (o : Out Slices) (k k' : Slices → Out Slices) → obind (obind o k) k' ≡ obind o (λ m. obind (k m) k')
 unfolding obind
 obind_then (wrote m) k k' = refl
 obind_then (stuck c) k k' = refl
 
 -- a sheet that is at hand
-pub at_sheet : (n : ℕ) (p : Placed) (t w : List ℕ) (k k' : Sheet → Out Sheet) → ((at : ℕ) → p ≡ Ok at → k (sheet n at t w) ≡ k' (sheet n at t w)) → obind (emit_out n p t w) k ≡ obind (emit_out n p t w) k'
-unfolding obind out_of with_names sheet_of put_out
-at_sheet n (Ok at) t w k k' e = e at refl
-at_sheet n (Err c) t w k k' e = refl
+pub at_slices : (n : ℕ) (p : Placed) (t w : List ℕ) (k k' : Slices → Out Slices) → ((at : ℕ) → p ≡ Ok at → k (slices n at t w) ≡ k' (slices n at t w)) → obind (emit_out n p t w) k ≡ obind (emit_out n p t w) k'
+unfolding obind out_of with_names slices_of put_out
+at_slices n (Ok at) t w k k' e = e at refl
+at_slices n (Err c) t w k k' e = refl

@@ -8,7 +8,7 @@ use Rattle.spec_type_table.specs.declared.types.TypeTable.{TypeTable}
 use Rattle.spec_type_table.specs.Cells.{get_field}
 use Rattle.spec_c_dumper.specs.ceiling.Ceiling.{calls_fresh, calls_visit, calls}
 use Rattle.c_dumper_dependency_order.specs.order_state.Work.{Marks, mark_of, work_store, table_in}
-use Rattle.spec_session.specs.emission.Sheet.{is_ignored, is_idle}
+use Rattle.spec_session.specs.emission.Slices.{is_ignored, is_idle}
 use Rattle.spec_session.specs.metered.Metered.{calls_in}
 
 module _ (b : TypeTable) (s : List ℕ) (w : List ℕ) (id : ℕ) where

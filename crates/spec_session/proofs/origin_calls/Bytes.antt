@@ -13,22 +13,22 @@ use Rattle.spec_c_dumper.specs.rules.Machine.{Out, wrote, stuck, Machine, eeach,
 use Rattle.spec_c_dumper.specs.rules.Types.{table_of}
 use Rattle.spec_type_table.specs.declared.types.TypeTable.{TypeTable}
 use Rattle.spec_type_table.specs.Table.{btf_of}
-use Rattle.spec_session.specs.emission.Sheet.{Sheet, work_machine}
+use Rattle.spec_session.specs.emission.Slices.{Slices, work_machine}
 use Rattle.spec_c_dumper.specs.rules.Request.{listed_out, dumped}
 use Rattle.spec_session.specs.declared.session.Session.{Session}
 use Rattle.spec_session.specs.session.Answers.{number_of, answer_of}
 use Rattle.spec_session.specs.calls.Refusals.{not_current, id_not_below, refusal}
 use Rattle.spec_session.specs.session.Turns.{Call, is_current, Reach, reached, refused_by, settled, unchanged, table_for, visits_in}
 use Rattle.spec_session.specs.calls.Calls.{came_to, lent_to, requested, onward, requested_from, type_call, types_call}
-use Rattle.spec_c_dumper.specs.origins.Causes.{Entry, Led, order_led, listed_entry, Noted, up_to, always, emit_noted, each_listed, shows_in, filled, entries_in}
+use Rattle.spec_c_dumper.specs.origins.Causes.{Entry, WithLeaders, order_with_leaders, listed_entry, Traced, up_to, always, emit_traced, each_listed, shows_in, filled, entries_in}
 use Rattle.spec_c_dumper.specs.origins.Claims.{forget, Numbered, Lined, Listed}
-use Rattle.spec_session.specs.origin_calls.Bytes.{listed_noted, dumped_noted, Reached, entries_after, came_to_noted, requested_noted, onward_noted, requested_from_noted, settled_noted, left_alone, type_causes, types_causes, CauseFits}
-use Rattle.spec_c_dumper.proofs.origins.Ordering.{forget_led, order_forgets}
+use Rattle.spec_session.specs.origin_calls.Bytes.{listed_traced, dumped_traced, Reached, entries_after, came_to_traced, requested_traced, onward_traced, requested_from_traced, settled_traced, left_alone, type_causes, types_causes, CauseFits}
+use Rattle.spec_c_dumper.proofs.origins.Ordering.{without_leaders, order_forgets}
 use Rattle.spec_c_dumper.proofs.origins.Emission.{lined_wrote, lined_bind, each_lined, emit_lined}
 use Rattle.spec_c_dumper.proofs.origins.Requests.{filled_listed}
 
 -- whatever the numbers are
-no_number : {M : Type 0} {Z : Type 0} {k : ℕ} {F : (ℕ → Bool) → Out (Noted M)} {P : Out M} → Lined Z k F P → Lined ⊥ k F P
+no_number : {M : Type 0} {Z : Type 0} {k : ℕ} {F : (ℕ → Bool) → Out (Traced M)} {P : Out M} → Lined Z k F P → Lined ⊥ k F P
 no_number h = record { same = h.same; need = h.need; from = h.from; fits = h.fits; short = h.short; counts = h.counts; numbered = λ z q. z }
 
 lined_refused : {M : Type 0} (k e : ℕ) → Lined {M = M} ⊥ k (λ r. stuck e) (stuck e)
@@ -37,20 +37,20 @@ lined_refused k e = record { same = refl; need = k; from = omega arith; fits = �
 
 -- ---- one request
 module _ {M : Type 0} (X : Machine M) (T : Table) (shows : ℕ → Bool) where
-  listed_lined : (x : ℕ) (es : List Entry) (o : Res (Led M)) → Lined ⊥ (length es) (λ r. listed_noted X T r shows x es o) (listed_out X T (forget_led o))
-  unfolding listed_noted listed_out forget_led
+  listed_lined : (x : ℕ) (es : List Entry) (o : Res (WithLeaders M)) → Lined ⊥ (length es) (λ r. listed_traced X T r shows x es o) (listed_out X T (without_leaders o))
+  unfolding listed_traced listed_out without_leaders
   listed_lined x es (ok s b) =
-      let m : Noted M = record { mach = s.state; entries = es } in
-      lined_bind ⊥ (length es) (λ r. each_listed X T r shows (listed_entry x s.led) (X.store.list s.state) m) (eeach (λ m' y. emit X T 512 m' y 0) (X.store.list s.state) s.state)
-      (no_number (each_lined (Numbered X) (λ r m' y. emit_noted X r shows (listed_entry x s.led) T 512 m' y 0) (λ m' y. emit X T 512 m' y 0) (λ m' y. emit_lined X shows (listed_entry x s.led) T 512 m' y 0) (X.store.list s.state) m))
+      let m : Traced M = record { mach = s.state; entries = es } in
+      lined_bind ⊥ (length es) (λ r. each_listed X T r shows (listed_entry x s.leaders) (X.store.list s.state) m) (eeach (λ m' y. emit X T 512 m' y 0) (X.store.list s.state) s.state)
+      (no_number (each_lined (Numbered X) (λ r m' y. emit_traced X r shows (listed_entry x s.leaders) T 512 m' y 0) (λ m' y. emit X T 512 m' y 0) (λ m' y. emit_lined X shows (listed_entry x s.leaders) T 512 m' y 0) (X.store.list s.state) m))
       (λ r m'. wrote (record { mach = X.start 0 m'.mach; entries = m'.entries })) (λ m'. wrote (X.start 0 m')) (λ m'. lined_wrote ⊥ (record { mach = X.start 0 m'.mach; entries = m'.entries }))
   listed_lined x es (refused c) = lined_refused (length es) c
 
-  pub dumped_lined : (m : M) (es : List Entry) (x : ℕ) → Lined ⊥ (length es) (λ r. dumped_noted X T r shows m es x) (dumped X T m x)
-  unfolding dumped_noted dumped
+  pub dumped_lined : (m : M) (es : List Entry) (x : ℕ) → Lined ⊥ (length es) (λ r. dumped_traced X T r shows m es x) (dumped X T m x)
+  unfolding dumped_traced dumped
   dumped_lined m es x =
-      subst (λ (o : Res M). Lined ⊥ (length es) (λ r. listed_noted X T r shows x es (order_led X.store x 512 T [] (record { state = m; led = [] }) x false)) (listed_out X T o))
-      (order_forgets X.store x 512 T [] (record { state = m; led = [] }) x false) (listed_lined x es (order_led X.store x 512 T [] (record { state = m; led = [] }) x false))
+      subst (λ (o : Res M). Lined ⊥ (length es) (λ r. listed_traced X T r shows x es (order_with_leaders X.store x 512 T [] (record { state = m; leaders = [] }) x false)) (listed_out X T o))
+      (order_forgets X.store x 512 T [] (record { state = m; leaders = [] }) x false) (listed_lined x es (order_with_leaders X.store x 512 T [] (record { state = m; leaders = [] }) x false))
 
 -- ---- where requests have come to
 abbrev Short : Reach → Type 0
@@ -70,12 +70,12 @@ is_reached (reached len w t) = 1
 is_reached (refused_by c len v t) = 0
 
 module _ (len v : ℕ) (t : List ℕ) (es : List Entry) where
-  after_held : (n : ℕ) → length es ≤ n → (o : Out (Noted Sheet)) → ((m : Noted Sheet) → o ≡ wrote m → length m.entries ≡ n) → length (entries_after es o) ≤ n
+  after_held : (n : ℕ) → length es ≤ n → (o : Out (Traced Slices)) → ((m : Traced Slices) → o ≡ wrote m → length m.entries ≡ n) → length (entries_after es o) ≤ n
   unfolding entries_after
   after_held n l (wrote m) h = let q : length m.entries ≡ n = h m refl in omega arith
   after_held n l (stuck c) h = l
 
-  after_counts : (n : ℕ) (o : Out (Noted Sheet)) → ((m : Noted Sheet) → o ≡ wrote m → length m.entries ≡ n) → is_reached (came_to len v t (forget o)) ≡ 1 → length (entries_after es o) ≡ n
+  after_counts : (n : ℕ) (o : Out (Traced Slices)) → ((m : Traced Slices) → o ≡ wrote m → length m.entries ≡ n) → is_reached (came_to len v t (forget o)) ≡ 1 → length (entries_after es o) ≡ n
   unfolding entries_after came_to forget
   after_counts n (wrote m) h q = h m refl
   after_counts n (stuck c) h q = absurd (let z : ◌≡◌ {A = ℕ} 0 1 = q in omega arith)
@@ -84,23 +84,23 @@ module _ (len v : ℕ) (t : List ℕ) (es : List Entry) where
   unfolding came_to forget
   stuck_short = (len, v, _, refl)
 
-  came_fits : (F : (ℕ → Bool) → Out (Noted Sheet)) (P : Out Sheet) → Lined ⊥ (length es) F P → ReachFits (length es) (λ r. came_to_noted len v t es (F r)) (came_to len v t P)
-  unfolding came_to_noted
+  came_fits : (F : (ℕ → Bool) → Out (Traced Slices)) (P : Out Slices) → Lined ⊥ (length es) F P → ReachFits (length es) (λ r. came_to_traced len v t es (F r)) (came_to len v t P)
+  unfolding came_to_traced
   came_fits F P h = record {
     same = ap (came_to len v t) h.same;
     need = h.need;
     from = h.from;
     held = after_held h.need h.from (F always) h.counts;
-    fits = λ c l. ap (came_to_noted len v t es) (h.fits c l);
-    short = λ c l q. subst (λ (o : Out (Noted Sheet)). Short (came_to len v t (forget o))) (sym (h.short c l q)) stuck_short;
+    fits = λ c l. ap (came_to_traced len v t es) (h.fits c l);
+    short = λ c l q. subst (λ (o : Out (Traced Slices)). Short (came_to len v t (forget o))) (sym (h.short c l q)) stuck_short;
     counts = λ n w u e. after_counts h.need (F always) h.counts (ap is_reached e);
   }
 
 module _ (b : TypeTable) (s : List ℕ) where
-  requested_fits : (id : ℕ) (es : List Entry) (len v : ℕ) (w t : List ℕ) → ReachFits (length es) (λ r. requested_noted r b s id es len v w t) (requested b s id len v w t)
-  unfolding requested_noted requested
+  requested_fits : (id : ℕ) (es : List Entry) (len v : ℕ) (w t : List ℕ) → ReachFits (length es) (λ r. requested_traced r b s id es len v w t) (requested b s id len v w t)
+  unfolding requested_traced requested
   requested_fits id es len v w t =
-      came_fits len v t es (λ r. dumped_noted (work_machine b (btf_of b s w)) (table_of (btf_of b s w)) r (shows_in (btf_of b s w)) (record { work = w; text = lent_to len t; at = 0; len = 0 }) es id)
+      came_fits len v t es (λ r. dumped_traced (work_machine b (btf_of b s w)) (table_of (btf_of b s w)) r (shows_in (btf_of b s w)) (record { work = w; text = lent_to len t; at = 0; len = 0 }) es id)
       (dumped (work_machine b (btf_of b s w)) (table_of (btf_of b s w)) (record { work = w; text = lent_to len t; at = 0; len = 0 }) id)
       (dumped_lined (work_machine b (btf_of b s w)) (table_of (btf_of b s w)) (shows_in (btf_of b s w)) (record { work = w; text = lent_to len t; at = 0; len = 0 }) es id)
 
@@ -108,15 +108,15 @@ module _ (b : TypeTable) (s : List ℕ) where
   module _ (k : ℕ) (F : (ℕ → Bool) → Reached) (P : Reach) (h : ReachFits k F P) (g : (ℕ → Bool) → List Entry → ℕ → List ℕ → List ℕ → Reached) (p : ℕ → List ℕ → List ℕ → Reach)
       (hg : (es : List Entry) (len : ℕ) (w t : List ℕ) → ReachFits (length es) (λ r. g r es len w t) (p len w t)) where
     abbrev next : (ℕ → Bool) → Reached
-    next r = onward_noted r b s (F r) (g r)
+    next r = onward_traced r b s (F r) (g r)
 
     goes : (r : ℕ → Bool) (u : Reached) → F r ≡ u → (len : ℕ) (w t : List ℕ) → u.reach ≡ reached len w t → next r ≡ g r u.entries len w t
-    unfolding onward_noted
+    unfolding onward_traced
     goes r u e len w t q =
-        ap (λ (v : Reached). onward_noted r b s v (g r)) e ∙ ap (λ (x : Reach). elim x as (λ (y : Reach). Reached) [ reached len' w' t' ↦ g r u.entries len' w' t' | refused_by c' len' v' t' ↦ u ]) q
+        ap (λ (v : Reached). onward_traced r b s v (g r)) e ∙ ap (λ (x : Reach). elim x as (λ (y : Reach). Reached) [ reached len' w' t' ↦ g r u.entries len' w' t' | refused_by c' len' v' t' ↦ u ]) q
 
     stops : (r : ℕ → Bool) (c len v : ℕ) (t : List ℕ) → (F r).reach ≡ refused_by c len v t → next r ≡ F r
-    unfolding onward_noted
+    unfolding onward_traced
     stops r c len v t q = ap (λ (x : Reach). elim x as (λ (y : Reach). Reached) [ reached len' w' t' ↦ g r (F r).entries len' w' t' | refused_by c' len' v' t' ↦ F r ]) q
 
     short_stops : (r : ℕ → Bool) → Short (F r).reach → Short (next r).reach
@@ -161,11 +161,11 @@ module _ (b : TypeTable) (s : List ℕ) where
     onward_fits : ReachFits k next (onward P p)
     onward_fits = by (F always).reach refl
 
-  from_fits : (n id : ℕ) (es : List Entry) (len : ℕ) (w t : List ℕ) → ReachFits (length es) (λ r. requested_from_noted r b s n id es len w t) (requested_from b s n id len w t)
-  unfolding requested_from_noted requested_from
+  from_fits : (n id : ℕ) (es : List Entry) (len : ℕ) (w t : List ℕ) → ReachFits (length es) (λ r. requested_from_traced r b s n id es len w t) (requested_from b s n id len w t)
+  unfolding requested_from_traced requested_from
   from_fits zero id es len w t = record { same = refl; need = length es; from = omega arith; held = omega arith; fits = λ c l. refl; short = λ c l q. absurd (omega arith); counts = λ len' w' t' e. refl }
   from_fits (suc n) id es len w t =
-      onward_fits (length es) (λ r. requested_noted r b s id es len (visits_in w) w t) (requested b s id len (visits_in w) w t) (requested_fits id es len (visits_in w) w t) (λ r. requested_from_noted r b s n (suc id)) (requested_from b s n (suc id)) (λ es' len' w' t'. from_fits n (suc id) es' len' w' t')
+      onward_fits (length es) (λ r. requested_traced r b s id es len (visits_in w) w t) (requested b s id len (visits_in w) w t) (requested_fits id es len (visits_in w) w t) (λ r. requested_from_traced r b s n (suc id)) (requested_from b s n (suc id)) (λ es' len' w' t'. from_fits n (suc id) es' len' w' t')
 
 -- ---- calls
 module _ (s : Session) (work text : List ℕ) where
@@ -176,8 +176,8 @@ module _ (s : Session) (work text : List ℕ) where
   unfolding settled number_of answer_of
   short_number r q = ap (λ (x : Reach). number_of (settled s (length work) (length text) x).answer) q.3
 
-  settled_fits : (F : (ℕ → Bool) → Reached) (P : Reach) → ReachFits 0 F P → CauseFits (settled s (length work) (length text) P) (λ l. settled_noted s (length work) (length text) l (F (up_to (entries_in l))))
-  unfolding settled_noted
+  settled_fits : (F : (ℕ → Bool) → Reached) (P : Reach) → ReachFits 0 F P → CauseFits (settled s (length work) (length text) P) (λ l. settled_traced s (length work) (length text) l (F (up_to (entries_in l))))
+  unfolding settled_traced
   settled_fits F P h = record {
     need = h.need;
     entries = (F always).entries;
@@ -201,13 +201,13 @@ type_fits s section work text id = by (is_current s (length section) (length wor
           | false ↦ left_alone (unchanged s (refusal not_current s.text_len) work text) l
           | true ↦ elim b [
             | false ↦ left_alone (unchanged s (refusal id_not_below s.text_len) work text) l
-            | true ↦ settled_noted s (length work) (length text) l (requested_noted (up_to (entries_in l)) (table_for s section) section id [] s.text_len s.visits work text)
+            | true ↦ settled_traced s (length work) (length text) l (requested_traced (up_to (entries_in l)) (table_for s section) section id [] s.text_len s.visits work text)
           ]
         ])
     by false b = left_fits s work text (unchanged s (refusal not_current s.text_len) work text)
     by true false = left_fits s work text (unchanged s (refusal id_not_below s.text_len) work text)
     by true true =
-        settled_fits s work text (λ r. requested_noted r (table_for s section) section id [] s.text_len s.visits work text) (requested (table_for s section) section id s.text_len s.visits work text)
+        settled_fits s work text (λ r. requested_traced r (table_for s section) section id [] s.text_len s.visits work text) (requested (table_for s section) section id s.text_len s.visits work text)
         (requested_fits (table_for s section) section id [] s.text_len s.visits work text)
 
 pub types_fits : (s : Session) (section work text : List ℕ) → CauseFits (types_call s section work text) (λ l. types_causes s section work text l)
@@ -218,9 +218,9 @@ types_fits s section work text = by (is_current s (length section) (length work)
         (elim o [ false ↦ unchanged s (refusal not_current s.text_len) work text | true ↦ settled s (length work) (length text) (requested_from (table_for s section) section ((table_for s section).types - 1) 1 s.text_len work text) ])
         (λ l. elim o [
           | false ↦ left_alone (unchanged s (refusal not_current s.text_len) work text) l
-          | true ↦ settled_noted s (length work) (length text) l (requested_from_noted (up_to (entries_in l)) (table_for s section) section ((table_for s section).types - 1) 1 [] s.text_len work text)
+          | true ↦ settled_traced s (length work) (length text) l (requested_from_traced (up_to (entries_in l)) (table_for s section) section ((table_for s section).types - 1) 1 [] s.text_len work text)
         ])
     by false = left_fits s work text (unchanged s (refusal not_current s.text_len) work text)
     by true =
-        settled_fits s work text (λ r. requested_from_noted r (table_for s section) section ((table_for s section).types - 1) 1 [] s.text_len work text)
+        settled_fits s work text (λ r. requested_from_traced r (table_for s section) section ((table_for s section).types - 1) 1 [] s.text_len work text)
         (requested_from (table_for s section) section ((table_for s section).types - 1) 1 s.text_len work text) (from_fits (table_for s section) section ((table_for s section).types - 1) 1 [] s.text_len work text)

@@ -6,7 +6,7 @@ use Rattle.spec_c_dumper.specs.rules.Types.{table_of}
 use Rattle.spec_type_table.specs.declared.types.TypeTable.{TypeTable}
 use Rattle.spec_type_table.specs.Table.{btf_of}
 use Rattle.spec_opening.specs.Opened.{Outcome, refused, opened, opening_of}
-use Rattle.spec_session.specs.emission.Sheet.{Sheet, work_machine}
+use Rattle.spec_session.specs.emission.Slices.{Slices, work_machine}
 use Rattle.spec_c_dumper.specs.rules.Request.{dumped}
 use Rattle.spec_session.specs.declared.session.Session.{Session}
 use Rattle.spec_session.specs.declared.session.Reached.{Reached}
@@ -53,7 +53,7 @@ arrived_at len v (Ok at) = record { len = len + at; stop = None; visits = v }
 arrived_at len v (Err c) = record { len = len; stop = Some c; visits = v }
 
 -- what a dump in the slice after the first len bytes of t leaves there, where v visits were counted before it
-unfoldable pub came_to : ℕ → ℕ → List ℕ → Out Sheet → Reach
+unfoldable pub came_to : ℕ → ℕ → List ℕ → Out Slices → Reach
 came_to len v t (wrote m) = reached (len + m.at) m.work (place t len m.text)
 came_to len v t (stuck c) = refused_by c len v (take len t)
 

@@ -4,32 +4,32 @@ use Rattle.std.specs.Prelude.{ℕ, List, [], ◌∷◌, ◌++◌}
 use Rattle.spec_c_dumper.specs.rules.Machine.{Out, wrote, stuck, Machine}
 use Rattle.spec_c_dumper.specs.rules.Types.{Btf as Rules}
 use Rattle.spec_type_table.specs.declared.types.TypeTable.{TypeTable}
-use Rattle.spec_session.specs.emission.Sheet.{Sheet, sheet_store, work_machine}
+use Rattle.spec_session.specs.emission.Slices.{Slices, slices_store, work_machine}
 
 pub record Tagged : Type 0 where
-  pub sheet : Sheet
+  pub slices : Slices
   pub tags : List ℕ
 
-unfoldable pub tagged : List ℕ → Out Sheet → Out Tagged
-tagged ts (wrote m) = wrote (record { sheet = m; tags = ts })
+unfoldable pub tagged : List ℕ → Out Slices → Out Tagged
+tagged ts (wrote m) = wrote (record { slices = m; tags = ts })
 tagged ts (stuck c) = stuck c
 
 unfoldable pub tagged_machine : TypeTable → Rules → Machine Tagged
 tagged_machine b B = record {
   store = record {
-    get = λ m x. sheet_store.get m.sheet x;
-    mark = λ k x m. record { sheet = sheet_store.mark k x m.sheet; tags = m.tags };
-    push = λ x m. record { sheet = sheet_store.push x m.sheet; tags = m.tags };
-    list = λ m. sheet_store.list m.sheet;
+    get = λ m x. slices_store.get m.slices x;
+    mark = λ k x m. record { slices = slices_store.mark k x m.slices; tags = m.tags };
+    push = λ x m. record { slices = slices_store.push x m.slices; tags = m.tags };
+    list = λ m. slices_store.list m.slices;
   };
-  start = λ room m. record { sheet = (work_machine b B).start room m.sheet; tags = m.tags };
-  eget = λ m x. (work_machine b B).eget m.sheet x;
-  emark = λ k x m. record { sheet = (work_machine b B).emark k x m.sheet; tags = m.tags };
-  has_fwd = λ m x. (work_machine b B).has_fwd m.sheet x;
-  forwarded = λ x m. record { sheet = (work_machine b B).forwarded x m.sheet; tags = m.tags };
-  fwd_line = λ m x. tagged m.tags ((work_machine b B).fwd_line m.sheet x);
-  alias_line = λ m x. tagged m.tags ((work_machine b B).alias_line m.sheet x);
-  leaf_line = λ m x. tagged m.tags ((work_machine b B).leaf_line m.sheet x);
-  body = λ m x. tagged (m.tags ++ (x ∷ [])) ((work_machine b B).body m.sheet x);
+  start = λ room m. record { slices = (work_machine b B).start room m.slices; tags = m.tags };
+  eget = λ m x. (work_machine b B).eget m.slices x;
+  emark = λ k x m. record { slices = (work_machine b B).emark k x m.slices; tags = m.tags };
+  has_fwd = λ m x. (work_machine b B).has_fwd m.slices x;
+  forwarded = λ x m. record { slices = (work_machine b B).forwarded x m.slices; tags = m.tags };
+  fwd_line = λ m x. tagged m.tags ((work_machine b B).fwd_line m.slices x);
+  alias_line = λ m x. tagged m.tags ((work_machine b B).alias_line m.slices x);
+  leaf_line = λ m x. tagged m.tags ((work_machine b B).leaf_line m.slices x);
+  body = λ m x. tagged (m.tags ++ (x ∷ [])) ((work_machine b B).body m.slices x);
   tags = λ m. m.tags;
 }

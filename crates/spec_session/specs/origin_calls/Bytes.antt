@@ -6,26 +6,27 @@ use Rattle.spec_c_dumper.specs.rules.Machine.{Out, wrote, stuck, Machine, obind}
 use Rattle.spec_c_dumper.specs.rules.Types.{table_of}
 use Rattle.spec_type_table.specs.declared.types.TypeTable.{TypeTable}
 use Rattle.spec_type_table.specs.Table.{btf_of}
-use Rattle.spec_session.specs.emission.Sheet.{Sheet, work_machine}
+use Rattle.spec_session.specs.emission.Slices.{Slices, work_machine}
 use Rattle.spec_session.specs.declared.session.Session.{Session}
 use Rattle.spec_session.specs.session.Answers.{number_of}
 use Rattle.spec_session.specs.calls.Refusals.{not_current, id_not_below, refusal}
 use Rattle.spec_session.specs.session.Turns.{Call, is_current, Reach, reached, refused_by, settled, unchanged, table_for, visits_in}
 use Rattle.spec_session.specs.calls.Calls.{came_to, lent_to}
-use Rattle.spec_c_dumper.specs.origins.Causes.{Entry, Led, order_led, listed_entry, Noted, up_to, each_listed, shows_in, filled, entries_in}
+use Rattle.spec_c_dumper.specs.origins.Causes.{Entry, WithLeaders, order_with_leaders, listed_entry, Traced, up_to, each_listed, shows_in}
+use Rattle.spec_c_dumper.specs.origins.Causes.{filled, entries_in}
 use Rattle.spec_c_dumper.specs.origins.Claims.{forget, Listed}
 
 -- One request, as `dumped` of `c_dumper_emit::emit_type`: what ordering listed, each at the top, and then the order list is empty again.
 -- es: the entries before it.
 module _ {M : Type 0} (X : Machine M) (T : Table) (more : ℕ → Bool) (shows : ℕ → Bool) where
-  unfoldable pub listed_noted : ℕ → List Entry → Res (Led M) → Out (Noted M)
-  listed_noted x es (ok s strong) =
-      obind (each_listed X T more shows (listed_entry x s.led) (X.store.list s.state) (record { mach = s.state; entries = es }))
+  unfoldable pub listed_traced : ℕ → List Entry → Res (WithLeaders M) → Out (Traced M)
+  listed_traced x es (ok s strong) =
+      obind (each_listed X T more shows (listed_entry x s.leaders) (X.store.list s.state) (record { mach = s.state; entries = es }))
       (λ m. wrote (record { mach = X.start 0 m.mach; entries = m.entries }))
-  listed_noted x es (refused c) = stuck c
+  listed_traced x es (refused c) = stuck c
 
-  unfoldable pub dumped_noted : M → List Entry → ℕ → Out (Noted M)
-  dumped_noted m es x = listed_noted x es (order_led X.store x 512 T [] (record { state = m; led = [] }) x false)
+  unfoldable pub dumped_traced : M → List Entry → ℕ → Out (Traced M)
+  dumped_traced m es x = listed_traced x es (order_with_leaders X.store x 512 T [] (record { state = m; leaders = [] }) x false)
 
 -- where the requests of a call have come to, and the entries of the accepted ones
 pub record Reached : Type 0 where
@@ -33,27 +34,28 @@ pub record Reached : Type 0 where
   pub entries : List Entry
 
 -- "a refused request's are dropped"
-unfoldable pub entries_after : List Entry → Out (Noted Sheet) → List Entry
+unfoldable pub entries_after : List Entry → Out (Traced Slices) → List Entry
 entries_after es (wrote m) = m.entries
 entries_after es (stuck c) = es
 
-unfoldable pub came_to_noted : ℕ → ℕ → List ℕ → List Entry → Out (Noted Sheet) → Reached
-came_to_noted len v t es o = record { reach = came_to len v t (forget o); entries = entries_after es o }
+unfoldable pub came_to_traced : ℕ → ℕ → List ℕ → List Entry → Out (Traced Slices) → Reached
+came_to_traced len v t es o = record { reach = came_to len v t (forget o); entries = entries_after es o }
 
 module _ (more : ℕ → Bool) (b : TypeTable) (s : List ℕ) where
   -- as `requested`: one request for an id, after a text of len bytes and v visits
-  unfoldable pub requested_noted : ℕ → List Entry → ℕ → ℕ → List ℕ → List ℕ → Reached
-  requested_noted id es len v w t =
-      came_to_noted len v t es (dumped_noted (work_machine b (btf_of b s w)) (table_of (btf_of b s w)) more (shows_in (btf_of b s w))
+  unfoldable pub requested_traced : ℕ → List Entry → ℕ → ℕ → List ℕ → List ℕ → Reached
+  requested_traced id es len v w t =
+      came_to_traced len v t es (dumped_traced (work_machine b (btf_of b s w)) (table_of (btf_of b s w)) more (shows_in (btf_of b s w))
       (record { work = w; text = lent_to len t; at = 0; len = 0 }) es id)
 
-  unfoldable pub onward_noted : Reached → (List Entry → ℕ → List ℕ → List ℕ → Reached) → Reached
-  onward_noted r k = elim r.reach [ reached len w t ↦ k r.entries len w t | refused_by c len v t ↦ r ]
+  unfoldable pub onward_traced : Reached → (List Entry → ℕ → List ℕ → List ℕ → Reached) → Reached
+  onward_traced r k = elim r.reach [ reached len w t ↦ k r.entries len w t | refused_by c len v t ↦ r ]
 
   -- n ids from id on
-  unfoldable pub requested_from_noted : ℕ → ℕ → List Entry → ℕ → List ℕ → List ℕ → Reached
-  requested_from_noted zero id es len w t = record { reach = reached len w t; entries = es }
-  requested_from_noted (suc n) id es len w t = onward_noted (requested_noted id es len (visits_in w) w t) (requested_from_noted n (suc id))
+  unfoldable pub requested_from_traced : ℕ → ℕ → List Entry → ℕ → List ℕ → List ℕ → Reached
+  requested_from_traced zero id es len w t = record { reach = reached len w t; entries = es }
+  requested_from_traced (suc n) id es len w t =
+      onward_traced (requested_traced id es len (visits_in w) w t) (requested_from_traced n (suc id))
 
 -- what a call comes to: session, answer, work and text; how many entries there are; and the lent list
 pub record CauseCall : Type 0 where
@@ -61,8 +63,8 @@ pub record CauseCall : Type 0 where
   pub count : ℕ
   pub list : List ℕ
 
-unfoldable pub settled_noted : Session → ℕ → ℕ → List ℕ → Reached → CauseCall
-settled_noted s work text list r =
+unfoldable pub settled_traced : Session → ℕ → ℕ → List ℕ → Reached → CauseCall
+settled_traced s work text list r =
     record { call = settled s work text r.reach; count = length r.entries; list = filled (length list) r.entries }
 
 -- 11 and 10: "Left as it was: everything"
@@ -75,8 +77,8 @@ type_causes s section work text id list =
       | false ↦ left_alone (unchanged s (refusal not_current s.text_len) work text) list
       | true ↦ elim (ltb id s.types) [
         | false ↦ left_alone (unchanged s (refusal id_not_below s.text_len) work text) list
-        | true ↦ settled_noted s (length work) (length text) list
-            (requested_noted (up_to (entries_in list)) (table_for s section) section id [] s.text_len s.visits work text)
+        | true ↦ settled_traced s (length work) (length text) list
+            (requested_traced (up_to (entries_in list)) (table_for s section) section id [] s.text_len s.visits work text)
       ]
     ]
 
@@ -84,8 +86,8 @@ unfoldable pub types_causes : Session → List ℕ → List ℕ → List ℕ →
 types_causes s section work text list =
     elim (is_current s (length section) (length work) (length text)) [
       | false ↦ left_alone (unchanged s (refusal not_current s.text_len) work text) list
-      | true ↦ settled_noted s (length work) (length text) list
-          (requested_from_noted (up_to (entries_in list)) (table_for s section) section ((table_for s section).types - 1) 1 []
+      | true ↦ settled_traced s (length work) (length text) list
+          (requested_from_traced (up_to (entries_in list)) (table_for s section) section ((table_for s section).types - 1) 1 []
           s.text_len work text)
     ]
 

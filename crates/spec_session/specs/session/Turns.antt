@@ -38,7 +38,7 @@ table_for s section = settings_of section s.pointer_size s.modes s.types
 
 -- ---- where requests come to
 
--- the visits that the work counts (`align_once` of alignments/specs): word 2 of void, 32 bits
+-- the visits that the work counts (`align_once` of the definitions): word 2 of void, 32 bits
 unfoldable pub visits_in : List ℕ → ℕ
 visits_in w = get_word w 2 % 4294967296
 

@@ -1,4 +1,4 @@
-use Rattle.spec_session.specs.emission.Sheet.{emptied}
+use Rattle.spec_session.specs.emission.Slices.{emptied}
 use mathlib.Core.Path.{◌≡◌}
 use Rattle.c_dumper_emit.proofs.order_list.clear_list.Given as goal
 

@@ -5,4 +5,4 @@ pub returns-then-id-self : goal.returns-then-id-self
 returns-then-id-self c = laws.cause_own _ _ _ _ c.if-id-self.true
 
 pub returns : goal.returns
-returns c = laws.cause_led _ _ _ _ _ c.if-id-self.false c.leader_of.ensures
+returns c = laws.cause_leader _ _ _ _ _ c.if-id-self.false c.leader_of.ensures

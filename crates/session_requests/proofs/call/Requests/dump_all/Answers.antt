@@ -16,7 +16,7 @@ returns-then-is_some c =
 pub loop-id-preserved : goal.loop-id-preserved
 loop-id-preserved c =
     let going = laws.not_stopped _ (sym c.is_some.ensures ∙ c.if-is_some.false) in
-    (c.dump_next-r.auto.work ∙ c.loop-id.invariant.0, c.dump_next-r.auto.text ∙ c.loop-id.invariant.1, c.dump_next-r.auto.list ∙ c.loop-id.invariant.2, going, c.loop-id.invariant.4, c.dump_next-r.ensures.1, laws.all_more _ _ _ _ _ _ _ _ _ _ _ _ c.loop-id-test.true c.loop-id.invariant.6 _ _ _ _ _ (ap (λ (i : ℕ). i / 12) c.loop-id.invariant.2) c.dump_next-r.ensures.0 going, c.dump_next-r.auto.leads ∙ c.loop-id.invariant.7, (c.dump_next-r.ensures.2 going).1, (c.dump_next-r.ensures.2 going).0)
+    (c.dump_next-r.auto.work ∙ c.loop-id.invariant.0, c.dump_next-r.auto.text ∙ c.loop-id.invariant.1, c.dump_next-r.auto.list ∙ c.loop-id.invariant.2, going, c.loop-id.invariant.4, c.dump_next-r.ensures.1, laws.all_more _ _ _ _ _ _ _ _ _ _ _ _ c.loop-id-test.true c.loop-id.invariant.6 _ _ _ _ _ (ap (λ (i : ℕ). i / 12) c.loop-id.invariant.2) c.dump_next-r.ensures.0 going, c.dump_next-r.auto.leaders ∙ c.loop-id.invariant.7, (c.dump_next-r.ensures.2 going).1, (c.dump_next-r.ensures.2 going).0)
 
 pub returns : goal.returns
 returns c = (laws.all_done _ _ _ _ _ _ _ _ _ _ _ c.loop-id-test.false c.loop-id.invariant.3 c.loop-id.invariant.6, omega (arith, c.loop-id.invariant.2, c.loop-id.invariant.5.1))

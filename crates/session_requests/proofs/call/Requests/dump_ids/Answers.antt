@@ -22,7 +22,7 @@ returns-then-is_some c =
 pub loop-k-preserved : goal.loop-k-preserved
 loop-k-preserved c =
     let going = not_stopped _ (sym c.is_some.ensures ∙ c.if-is_some.false) in
-    (c.dump_one-r.auto.work ∙ c.loop-k.invariant.0, lists.cleared_length _ _ c.dump_one-r.ensures.1.0 _ _ c.clear_if.ensures ∙ c.dump_one-r.auto.text ∙ c.loop-k.invariant.1, c.dump_one-r.auto.list ∙ c.loop-k.invariant.2, c.dump_one-r.auto.leads ∙ c.loop-k.invariant.3, (omega (arith, lists.cleared_length _ _ c.dump_one-r.ensures.1.0 _ _ c.clear_if.ensures, c.dump_one-r.ensures.1.0), c.dump_one-r.ensures.1.1, c.dump_one-r.ensures.1.2), (c.dump_one-r.ensures.3 going).1, c.loop-k.invariant.6, c.loop-k.invariant.7 ∙ sym c.dump_one-r.auto.work, λ y. lists.clean_next _ _ c.dump_one-r.ensures.1.0 _ _ _ c.clear_if.ensures y, lists.list_more _ c.args.s _ c.loop-k.invariant.6 _ c.requires.0 _ _ _ _ _ _ _ _ _ _ _ c.loop-k.invariant.7 c.loop-k.invariant.4.0 c.loop-k.invariant.4.1 c.loop-k.invariant.8 c.loop-k.invariant.9 c.loop-k-test.true _ c.get_word-id.ensures c.if-s-id.false _ _ _ _ c.dump_one-r.auto.list c.dump_one-r.ensures.2 c.dump_one-r.ensures.0 c.dump_one-r.ensures.1.1 (λ j. omega (arith, c.type_inv.list j)) c.dump_one-r.auto.text c.dump_one-r.ensures.1.0 going _ c.clear_if.ensures _ (c.dump_one-r.ensures.3 going).0, going)
+    (c.dump_one-r.auto.work ∙ c.loop-k.invariant.0, lists.cleared_length _ _ c.dump_one-r.ensures.1.0 _ _ c.clear_if.ensures ∙ c.dump_one-r.auto.text ∙ c.loop-k.invariant.1, c.dump_one-r.auto.list ∙ c.loop-k.invariant.2, c.dump_one-r.auto.leaders ∙ c.loop-k.invariant.3, (omega (arith, lists.cleared_length _ _ c.dump_one-r.ensures.1.0 _ _ c.clear_if.ensures, c.dump_one-r.ensures.1.0), c.dump_one-r.ensures.1.1, c.dump_one-r.ensures.1.2), (c.dump_one-r.ensures.3 going).1, c.loop-k.invariant.6, c.loop-k.invariant.7 ∙ sym c.dump_one-r.auto.work, λ y. lists.clean_next _ _ c.dump_one-r.ensures.1.0 _ _ _ c.clear_if.ensures y, lists.list_more _ c.args.s _ c.loop-k.invariant.6 _ c.requires.0 _ _ _ _ _ _ _ _ _ _ _ c.loop-k.invariant.7 c.loop-k.invariant.4.0 c.loop-k.invariant.4.1 c.loop-k.invariant.8 c.loop-k.invariant.9 c.loop-k-test.true _ c.get_word-id.ensures c.if-s-id.false _ _ _ _ c.dump_one-r.auto.list c.dump_one-r.ensures.2 c.dump_one-r.ensures.0 c.dump_one-r.ensures.1.1 (λ j. omega (arith, c.type_inv.list j)) c.dump_one-r.auto.text c.dump_one-r.ensures.1.0 going _ c.clear_if.ensures _ (c.dump_one-r.ensures.3 going).0, going)
 
 pub returns : goal.returns
 returns c = (lists.tally_done _ _ _ _ _ _ _ _ _ c.tally_of-2.ensures (omega arith) c.loop-k.invariant.10 (lists.list_done _ c.args.s _ c.loop-k.invariant.6 _ c.requires.0 _ _ _ _ _ _ _ _ _ _ _ c.loop-k.invariant.7 c.loop-k.invariant.4.0 c.loop-k.invariant.4.1 c.loop-k.invariant.8 c.loop-k.invariant.9 c.loop-k-test.false), lists.tally_room _ _ _ _ c.tally_of-2.ensures (omega (arith, c.loop-k.invariant.4.1, c.loop-k.invariant.2)))

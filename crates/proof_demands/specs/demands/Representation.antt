@@ -11,10 +11,10 @@ use Rattle.spec_type_table.specs.Cells.{get_field}
 use Rattle.spec_type_table.specs.Table.{from, btf_of}
 use Rattle.c_dumper_dependency_order.specs.order_state.Work.{mark_of}
 use Rattle.spec_c_dumper.specs.needs.Lists.{Ls}
-use Rattle.spec_session.specs.emission.Sheet.{Sheet}
+use Rattle.spec_session.specs.emission.Slices.{Slices}
 use Rattle.spec_c_dumper.specs.needs.Session.{Known, text_of, machine}
 use Rattle.proof_demands.specs.name_counts.Alike.{Alike}
-use Rattle.proof_demands.specs.alignment_memory.Work.{Minds}
+use Rattle.proof_demands.specs.alignment_memory.Work.{SoundMemory}
 
 -- w is the work after opening
 module _ (b : TypeTable) (e : ℕ) (s w : List ℕ) where
@@ -31,7 +31,7 @@ module _ (b : TypeTable) (e : ℕ) (s w : List ℕ) where
     pub emits_n : length t.emits ≡ b.types
     pub fwds_n : length t.fwds ≡ b.types
     -- what is remembered of alignments is what get_align_of says
-    pub memory : Minds (btf_of b s w) v
+    pub memory : SoundMemory (btf_of b s w) v
 
   -- The text: its front, from before the request, and the slice that the request is lent. They are as long as the room, and no longer than
   -- 2^30 bytes. What was written stands in the front and in the slice up to the next place.
@@ -50,9 +50,9 @@ module _ (b : TypeTable) (e : ℕ) (s w : List ℕ) where
   -- What a request for id x in the session S comes to, on a slice of the lent text after its front, and in the machine of lists: accepted
   -- by both, and then the work bears the new state (with an empty order list) and front and slice show its text; or refused by the same
   -- number.
-  pub data BothRequest (front : List ℕ) (room : ℕ) (S : Sess (Ls (Known Names))) (x : ℕ) : Out Sheet → Answer (Ls (Known Names))
+  pub data BothRequest (front : List ℕ) (room : ℕ) (S : Sess (Ls (Known Names))) (x : ℕ) : Out Slices → Answer (Ls (Known Names))
       → Type 0 where
-    both_served : (m : Sheet) (t : Ls (Known Names)) → Bears m.work 0 ((machine (btf_of b s w)).start 0 t)
+    both_served : (m : Slices) (t : Ls (Known Names)) → Bears m.work 0 ((machine (btf_of b s w)).start 0 t)
         → Shows front m.text m.at t → t.room ≡ room
         → BothRequest front room S x (wrote m) (record {
           sess = record { is_open = true; mach = t; asked = S.asked ++ (x ∷ []) };

@@ -21,7 +21,7 @@ use Rattle.spec_c_dumper.specs.needs.Lists.{Piece, defines, other, Line, cannot,
 use Rattle.spec_c_dumper.specs.needs.Session.{Known, fitting, line_of}
 use Rattle.spec_c_dumper.proofs.origins.Keeps.{Comes, comes, halts}
 use Rattle.spec_c_dumper.proofs.needs.Splits.{nil_not, snoc_split}
-use Rattle.spec_declared_first.specs.Notes.{Mention, Asked, noting, Note, Seen, noted, unasked, noted_machine}
+use Rattle.spec_declared_first.specs.Notes.{Mention, Asked, noting, Note, Seen, with_note, unasked, notes_machine}
 use Rattle.spec_declared_first.specs.Declared.{NoBuiltin, Key, key_of, keys_of, own_name, Stands, bytes_of, Declares, Above, ItsTag, FitsBefore, DeclaredAbove}
 use Rattle.spec_declared_first.proofs.Reach.{stops, Reach, at, on, is_leaf, HasName}
 use Rattle.spec_declared_first.proofs.Ordering.{Steady}
@@ -128,7 +128,7 @@ module _ {U : Type 0} (N : Naming U) (B : Btf) (nb : NoBuiltin B) (below : (x y 
   Told s w = HasNote s.known.notes w
 
   abbrev Wrote' : ℕ → Ls (Seen U) → Ls (Seen U) → Type 0
-  Wrote' x s s' = Wrote (noted_machine N B) T Good Told x s s'
+  Wrote' x s s' = Wrote (notes_machine N B) T Good Told x s s'
 
   -- a line of type x, by a writer that asks only for what it may
   module _ (s : Ls (Seen U)) (x : ℕ) (l : x < B.type_cnt) (Q : Type 0) (mk : List ℕ → Piece) (bytes_mk : (t : List ℕ) → bytes_of (mk t) ≡ t)
@@ -185,7 +185,7 @@ module _ {U : Type 0} (N : Naming U) (B : Btf) (nb : NoBuiltin B) (below : (x y 
           go (inr j) = mine (subst (λ (k : Note). Declares B k m) (Memᴰ.eq_of_singleton j) d)
 
     abbrev put' : Line (Known (Asked U)) → Out (Ls (Seen U))
-    put' k = put_line mk s (noted mk x s.known k)
+    put' k = put_line mk s (with_note mk x s.known k)
 
     fitting_ok : (len : ℕ) (u : Asked U) (t : Text) → Right N B nb Sound Holds keep notes owned x l Q (said u t) → Shown N B (said u t) → Comes (Wrote' x s) (put' (fitting len u t))
     unfolding fitting
@@ -220,26 +220,26 @@ module _ {U : Type 0} (N : Naming U) (B : Btf) (nb : NoBuiltin B) (below : (x y 
   none_of : {X : Type 0} → ⊥ → X
   none_of q = absurd q
 
-  fwd_ok : (s : Ls (Seen U)) (x : ℕ) → Good s → x < B.type_cnt → stops T x ≡ true → Comes (Wrote' x s) ((noted_machine N B).fwd_line s x)
+  fwd_ok : (s : Ls (Seen U)) (x : ℕ) → Good s → x < B.type_cnt → stops T x ≡ true → Comes (Wrote' x s) ((notes_machine N B).fwd_line s x)
   fwd_ok s x g l p =
       line_ok s x l ⊥ other (λ t. refl) none_of g (forward (noting N) B x (B.type_by_id x))
       (forward_composite N B nb Sound Holds keep s.known.notes (owned s x l ⊥ other (λ t. refl) none_of g) x l ⊥ (B.type_by_id x) refl (stops_comp T x p))
       (shown_forward N B x (unasked s.known) refl)
 
-  leaf_ok : (s : Ls (Seen U)) (x : ℕ) (f : Bool) → Good s → x < B.type_cnt → T.node x ≡ listed f → Comes (Wrote' x s) ((noted_machine N B).leaf_line s x)
+  leaf_ok : (s : Ls (Seen U)) (x : ℕ) (f : Bool) → Good s → x < B.type_cnt → T.node x ≡ listed f → Comes (Wrote' x s) ((notes_machine N B).leaf_line s x)
   leaf_ok s x f g l e =
       line_ok s x l ⊥ other (λ t. refl) none_of g (definition (noting N) B x (B.type_by_id x))
       (definition_leaf N B nb Sound Holds keep s.known.notes (owned s x l ⊥ other (λ t. refl) none_of g) x l ⊥ (B.type_by_id x) refl (ap is_leaf e))
       (shown_definition N B x (unasked s.known) refl)
 
-  alias_ok : (s : Ls (Seen U)) (x t : ℕ) → Good s → x < B.type_cnt → T.node x ≡ tdef t → ((w : ℕ) → Reach T t w → HasName T w → Told s w) → Comes (Wrote' x s) ((noted_machine N B).alias_line s x)
+  alias_ok : (s : Ls (Seen U)) (x t : ℕ) → Good s → x < B.type_cnt → T.node x ≡ tdef t → ((w : ℕ) → Reach T t w → HasName T w → Told s w) → Comes (Wrote' x s) ((notes_machine N B).alias_line s x)
   alias_ok s x t g l e h =
       line_ok s x l ⊥ other (λ t. refl) none_of g (forward (noting N) B x (B.type_by_id x))
       (forward_typedef N B nb Sound Holds keep s.known.notes (owned s x l ⊥ other (λ t. refl) none_of g) x l ⊥ (B.type_by_id x) refl (ap is_tdef e)
       (λ y m. open_may s x l ⊥ other (λ t. refl) none_of g y (below x y m) (λ w r n. inl (h w (subst (λ (k : ℕ). Reach T k w) (Memᴰ.eq_of_singleton (subst (λ (k : Node). Memᴰ y (kids k)) e m)) r) n))))
       (shown_forward N B x (unasked s.known) refl)
 
-  body_ok : (s : Ls (Seen U)) (x : ℕ) (ms : List ℕ) → Good s → x < B.type_cnt → T.node x ≡ comp ms → ((m w : ℕ) → Memᴰ m ms → Reach T m w → HasName T w → Told s w ⊎ (w ≡ x)) → Comes (Wrote' x s) ((noted_machine N B).body s x)
+  body_ok : (s : Ls (Seen U)) (x : ℕ) (ms : List ℕ) → Good s → x < B.type_cnt → T.node x ≡ comp ms → ((m w : ℕ) → Memᴰ m ms → Reach T m w → HasName T w → Told s w ⊎ (w ≡ x)) → Comes (Wrote' x s) ((notes_machine N B).body s x)
   body_ok s x ms g l e h =
       line_ok s x l (Unit {0}) (defines x) (λ t. refl) its g (definition (noting N) B x (B.type_by_id x))
       (definition_composite N B nb Sound Holds keep s.known.notes (owned s x l (Unit {0}) (defines x) (λ t. refl) its g) x l (Unit {0}) (B.type_by_id x) refl (ap is_comp e)
@@ -253,8 +253,8 @@ module _ {U : Type 0} (N : Naming U) (B : Btf) (nb : NoBuiltin B) (below : (x y 
       used w (inl d) = inl d
       used w (inr q) = inr (q, tt)
 
-  pub noted_noting : Noting (noted_machine N B) T Good Told
-  noted_noting = record {
+  pub notes_noting : Noting (notes_machine N B) T Good Told
+  notes_noting = record {
     emark_good = λ m x s g l. record { marks_n = g.marks_n; emits_n = length-set s.emits x m ∙ g.emits_n; fwds_n = g.fwds_n; orderly = g.orderly; sound = g.sound; held = g.held };
     emark_gets = λ m x s g l d. refl;
     emark_same = λ m x s g l. get_or-set_same s.emits x m new (subst (λ (k : ℕ). x < k) (sym g.emits_n) l);
@@ -274,12 +274,12 @@ module _ {U : Type 0} (N : Naming U) (B : Btf) (nb : NoBuiltin B) (below : (x y 
 
   -- what ordering leaves alone
   pub record Frame (s s' : Ls (Seen U)) : Type 0 where
-    pub egets : (d : ℕ) → (noted_machine N B).eget s' d ≡ (noted_machine N B).eget s d
-    pub has : (d : ℕ) → (noted_machine N B).has_fwd s' d ≡ (noted_machine N B).has_fwd s d
+    pub egets : (d : ℕ) → (notes_machine N B).eget s' d ≡ (notes_machine N B).eget s d
+    pub has : (d : ℕ) → (notes_machine N B).has_fwd s' d ≡ (notes_machine N B).has_fwd s d
     pub decs : (w : ℕ) → Told s w → Told s' w
 
-  pub noted_steady : Steady (noted_machine N B).store B.type_cnt Good Frame
-  noted_steady = record {
+  pub notes_steady : Steady (notes_machine N B).store B.type_cnt Good Frame
+  notes_steady = record {
     mark_good = λ m x s g l. record { marks_n = length-set s.marks x m ∙ g.marks_n; emits_n = g.emits_n; fwds_n = g.fwds_n; orderly = g.orderly; sound = g.sound; held = g.held };
     mark_same = λ m x s g l. get_or-set_same s.marks x m new (subst (λ (k : ℕ). x < k) (sym g.marks_n) l);
     mark_other = λ m x s g l d q. get_or-set_other s.marks x d m new q;

@@ -14,8 +14,8 @@ use Rattle.btf_layout.specs.asked.Asked.{work_asks}
 use Rattle.spec_type_table.specs.declared.types.TypeTable.{TypeTable}
 use Rattle.spec_type_table.specs.Cells.{put_field}
 use Rattle.spec_type_table.specs.Table.{work_naming}
-use Rattle.spec_session.specs.emission.Sheet.{Sheet, with_work, emit_out, line_in, work_machine}
-use Rattle.spec_c_dumper.specs.origins.Causes.{Entry, entry, Noted, with_entries, up_to, line, cause_at, noting, shows_in, entries_in}
+use Rattle.spec_session.specs.emission.Slices.{Slices, with_work, emit_out, line_in, work_machine}
+use Rattle.spec_c_dumper.specs.origins.Causes.{Entry, entry, Traced, with_entries, up_to, line, cause_at, noting, shows_in, entries_in}
 use Rattle.c_dumper_emit.specs.declared.entries.Pen.{Pen}
 use Rattle.c_dumper_emit.specs.declared.entries.Cause.{Cause}
 use Rattle.c_dumper_emit.specs.declared.entries.Cause.TheVariants.{Requested, Needed, ForwardLine, EarlyTypedef}
@@ -43,18 +43,18 @@ unfoldable pub entry_put : List ℕ → ℕ → Entry → List ℕ
 entry_put l k e = put_word (put_word (put_word l (k * 3) e.id) (k * 3 + 1) e.cause) (k * 3 + 2) e.leader
 
 -- what the code's place and count say, with text, work and list at that moment, or its refusal; n: the length of the order list
-unfoldable pub noted_out : ℕ → Result Pen Refusal → List ℕ → List ℕ → List ℕ → Out (Noted Sheet)
-noted_out n (Ok p) t w l = with_entries (entries_of p.count l) (emit_out n (Ok p.at) t w)
-noted_out n (Err c) t w l = stuck (refusal_number c)
+unfoldable pub traced_out : ℕ → Result Pen Refusal → List ℕ → List ℕ → List ℕ → Out (Traced Slices)
+traced_out n (Ok p) t w l = with_entries (entries_of p.count l) (emit_out n (Ok p.at) t w)
+traced_out n (Err c) t w l = stuck (refusal_number c)
 
 -- ---- a line
 
 -- "A lent list too short for one more entry is 17, met before any other step of that line"; room: how many entries it holds
-unfoldable pub note_n : ℕ → Entry → Noted Sheet → Out (Noted Sheet)
+unfoldable pub note_n : ℕ → Entry → Traced Slices → Out (Traced Slices)
 note_n room e m =
     elim (ltb (length m.entries) room) [ true ↦ wrote (record { mach = m.mach; entries = m.entries ++ (e ∷ []) }) | false ↦ stuck 17 ]
 
-unfoldable pub note_if_n : Bool → ℕ → Entry → Noted Sheet → Out (Noted Sheet)
+unfoldable pub note_if_n : Bool → ℕ → Entry → Traced Slices → Out (Traced Slices)
 note_if_n true room e m = note_n room e m
 note_if_n false room e m = wrote m
 
@@ -67,7 +67,7 @@ abbrev pub lent_list : Bool → List ℕ → Lent
 lent_list lists l = record { lists = lists; room = entries_in l }
 
 -- an entry, if there is a list and the line shows anything, and what the writer says
-unfoldable pub line_n : Lent → Bool → Entry → Writer (List ℕ) → Noted Sheet → Out (Noted Sheet)
+unfoldable pub line_n : Lent → Bool → Entry → Writer (List ℕ) → Traced Slices → Out (Traced Slices)
 line_n lent shown e v m = line (up_to lent.room) (lent.lists && shown) e (λ k. line_in v k) m
 
 -- whether the forward line or the typedef of such a type prints anything
@@ -77,10 +77,10 @@ shown_of ty = not (builtin (name_of ty))
 -- ---- the clauses of the rules. why: the entry of a listed id
 module _ (b : TypeTable) (B : Rules) (lent : Lent) (why : ℕ → Entry) where
   -- the machine `noting` of the line origins, whose lines are entries only where there is a list
-  abbrev pub noting_n : ℕ → Machine (Noted Sheet)
+  abbrev pub noting_n : ℕ → Machine (Traced Slices)
   noting_n cont = noting (work_machine b B) (up_to lent.room) (shows_in B) why cont
 
-  abbrev pub mach_n : ℕ → Machine (Noted Sheet)
+  abbrev pub mach_n : ℕ → Machine (Traced Slices)
   mach_n cont = record {
     store = (noting_n cont).store;
     start = (noting_n cont).start;
@@ -96,51 +96,51 @@ module _ (b : TypeTable) (B : Rules) (lent : Lent) (why : ℕ → Entry) where
     tags = (noting_n cont).tags;
   }
 
-  -- the rule `emit`: each call with the machine of its container, as `emit_noted` has it
-  unfoldable pub emit_n : ℕ → ℕ → Noted Sheet → ℕ → Out (Noted Sheet)
+  -- the rule `emit`: each call with the machine of its container, as `emit_traced` has it
+  unfoldable pub emit_n : ℕ → ℕ → Traced Slices → ℕ → Out (Traced Slices)
   emit_n zero cont m x = stuck 12
   emit_n (suc left) cont m x = look (mach_n cont) (table_of B) (λ m' y c. emit_n left c m' y) m x cont ((work_machine b B).eget m.mach x)
 
-  unfoldable pub new_n : ℕ → ℕ → Noted Sheet → ℕ → Out (Noted Sheet)
+  unfoldable pub new_n : ℕ → ℕ → Traced Slices → ℕ → Out (Traced Slices)
   new_n left cont m x = begin (mach_n cont) (table_of B) (λ m' y c. emit_n left c m' y) m x cont (is_zero cont) ((table_of B).node x)
 
-  unfoldable pub again_n : ℕ → Noted Sheet → ℕ → Out (Noted Sheet)
+  unfoldable pub again_n : ℕ → Traced Slices → ℕ → Out (Traced Slices)
   again_n cont m x = again (mach_n cont) (table_of B) m x cont ((table_of B).node x)
 
-  unfoldable pub leaf_n : Bool → ℕ → Noted Sheet → ℕ → Out (Noted Sheet)
+  unfoldable pub leaf_n : Bool → ℕ → Traced Slices → ℕ → Out (Traced Slices)
   leaf_n is_fwd cont m x = leaf (mach_n cont) (table_of B) (is_fwd || is_zero cont) x m
 
-  unfoldable pub composite_n : ℕ → ℕ → List ℕ → Noted Sheet → ℕ → Out (Noted Sheet)
+  unfoldable pub composite_n : ℕ → ℕ → List ℕ → Traced Slices → ℕ → Out (Traced Slices)
   composite_n left cont members m x = begin (mach_n cont) (table_of B) (λ m' y c. emit_n left c m' y) m x cont (is_zero cont) (comp members)
 
 -- the emit state of an id set
-abbrev pub state_n : ℕ → ℕ → Noted Sheet → Noted Sheet
+abbrev pub state_n : ℕ → ℕ → Traced Slices → Traced Slices
 state_n x k m = record { mach = with_work m.mach (put_field m.mach.work x 13 k); entries = m.entries }
 
 -- The line that comes once for each id, of the type ty, with the entry e; the forward line of a composite within cont; and lines with the
 -- emit state around them.
 module _ (b : TypeTable) (B : Rules) (lent : Lent) where
-  unfoldable pub has_n : Noted Sheet → ℕ → Bool
+  unfoldable pub has_n : Traced Slices → ℕ → Bool
   has_n m x = (work_machine b B).has_fwd m.mach x
 
-  unfoldable pub once_n : BtfType → Entry → Bool → Noted Sheet → ℕ → Out (Noted Sheet)
+  unfoldable pub once_n : BtfType → Entry → Bool → Traced Slices → ℕ → Out (Traced Slices)
   once_n ty e had m x =
       once (mach_n b B lent (λ y. e) 0) (table_of B)
       (λ m' y. line_n lent (shown_of ty) e (forward_once (work_asks b.types B) (work_naming b) B y ty) m') x had m
 
-  unfoldable pub mention_n : BtfType → ℕ → Noted Sheet → ℕ → Out (Noted Sheet)
+  unfoldable pub mention_n : BtfType → ℕ → Traced Slices → ℕ → Out (Traced Slices)
   mention_n ty cont m x = once_n ty (entry x 2 cont) (has_n m x || eqb x cont) m x
 
   -- a typedef's line, unless it had one; then it is done
-  unfoldable pub typedef_n : BtfType → Entry → Noted Sheet → ℕ → Out (Noted Sheet)
+  unfoldable pub typedef_n : BtfType → Entry → Traced Slices → ℕ → Out (Traced Slices)
   typedef_n ty e m x = obind (once_n ty e (has_n m x) m x) (λ k. wrote (state_n x 2 k))
 
   -- a named composite within cont: the forward line, while it is begun
-  unfoldable pub mentioned_n : BtfType → ℕ → Noted Sheet → ℕ → Out (Noted Sheet)
+  unfoldable pub mentioned_n : BtfType → ℕ → Traced Slices → ℕ → Out (Traced Slices)
   mentioned_n ty cont m x = obind (mention_n ty cont (state_n x 1 m) x) (λ k. wrote (state_n x 0 k))
 
   -- after the members: at the top the definition, and it is done; else it is new again
-  unfoldable pub ended_n : Bool → BtfType → Entry → Noted Sheet → ℕ → Out (Noted Sheet)
+  unfoldable pub ended_n : Bool → BtfType → Entry → Traced Slices → ℕ → Out (Traced Slices)
   ended_n true ty e m x =
       obind (line_n lent true e (definition_once (work_asks b.types B) (work_naming b) B x ty) m) (λ k. wrote (state_n x 2 k))
   ended_n false ty e m x = wrote (state_n x 0 m)

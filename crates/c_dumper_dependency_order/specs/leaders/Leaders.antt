@@ -1,6 +1,6 @@
 -- Ordering in the lent work, which notes a leader for each listed id beside it: without the leaders it is `order_within` over the work
--- (proofs/leaders/Maps); with them, and without a ceiling, it is `order_led` of the definitions, with two numbers for what is being ordered
--- and words for the leaders (session_origins_walk, proofs/request/Leaders).
+-- (proofs/leaders/Maps); with them, and without a ceiling, it is `order_with_leaders` of the definitions, with two numbers for what is
+-- being ordered and words for the leaders (c_dumper_emit, proofs/dump_type/Leaders).
 use Rattle.std.specs.Prelude.{ℕ, zero, suc, ◌+◌, ◌*◌, ◌/◌, ◌%◌, Bool, true, false, not, ◌&&◌, ◌||◌, eqb, Result, Ok, Err}
 use Rattle.std.specs.Prelude.{List, map, get_or, set}
 use Rattle.spec_bytes.specs.Refusals.{refusal_number}
@@ -12,16 +12,16 @@ use Rattle.c_dumper_dependency_order.specs.declared.order_state.Halted.{Halted}
 use Rattle.c_dumper_dependency_order.specs.order_state.Work.{Marks, work_store}
 use Rattle.spec_c_dumper.specs.origins.Causes.{is_around, entry, Entry}
 use Rattle.c_dumper_dependency_order.specs.declared.leaders.Way.{Way}
-use Rattle.c_dumper_dependency_order.specs.declared.leaders.Lead.{Lead}
+use Rattle.c_dumper_dependency_order.specs.declared.leaders.Leader.{Leader}
 
 -- ---- what is being ordered around a call
 
 -- the innermost other of it: the innermost, or, for that one itself, its own leader
-unfoldable pub led_two : Way → ℕ → ℕ
-led_two v x = elim (eqb v.inner x) [ true ↦ v.lead | false ↦ v.inner ]
+unfoldable pub leader_on_way : Way → ℕ → ℕ
+leader_on_way v x = elim (eqb v.inner x) [ true ↦ v.lead | false ↦ v.inner ]
 
 abbrev pub inside_of : Way → ℕ → Way
-inside_of v x = record { inner = x; lead = led_two v x; turn = v.turn }
+inside_of v x = record { inner = x; lead = leader_on_way v x; turn = v.turn }
 
 -- what is being ordered while x is, which is a composite or a typedef if the flag says so
 abbrev pub way_for : Bool → Way → ℕ → Way
@@ -31,26 +31,26 @@ way_for false v x = v
 -- ---- the leaders: a word for each id, with the request that noted it and the leader
 
 -- a leader of the code as one number
-unfoldable pub lead_word : Lead → ℕ
-lead_word v = v.turn * 4294967296 + v.lead
+unfoldable pub leader_word : Leader → ℕ
+leader_word v = v.turn * 4294967296 + v.lead
 
-unfoldable pub lead_words : List Lead → List ℕ
-lead_words = map lead_word
+unfoldable pub leader_words : List Leader → List ℕ
+leader_words = map leader_word
 
 unfoldable pub word_at : List ℕ → ℕ → ℕ
 word_at l x = get_or l x 0
 
 -- whether request `turn` has noted x
-unfoldable pub is_noted : ℕ → List ℕ → ℕ → Bool
-is_noted turn l x = eqb (word_at l x / 4294967296) turn
+unfoldable pub has_leader : ℕ → List ℕ → ℕ → Bool
+has_leader turn l x = eqb (word_at l x / 4294967296) turn
 
 -- "led to by [..] at its first listing": a later one changes nothing; past the words nothing is kept
 unfoldable pub note_in : Way → List ℕ → ℕ → List ℕ
-note_in v l x = elim (is_noted v.turn l x) [ true ↦ l | false ↦ set l x (v.turn * 4294967296 + led_two v x) ]
+note_in v l x = elim (has_leader v.turn l x) [ true ↦ l | false ↦ set l x (v.turn * 4294967296 + leader_on_way v x) ]
 
 -- the leader of x in the request for req: what was noted, or req
 unfoldable pub leader_in : ℕ → ℕ → List ℕ → ℕ → ℕ
-leader_in req turn l x = elim (is_noted turn l x) [ true ↦ word_at l x % 4294967296 | false ↦ req ]
+leader_in req turn l x = elim (has_leader turn l x) [ true ↦ word_at l x % 4294967296 | false ↦ req ]
 
 -- "The requested id leads to itself; a needed line is any other listed id"
 unfoldable pub entry_in : ℕ → ℕ → List ℕ → ℕ → Entry
@@ -61,13 +61,13 @@ entry_in req turn l x = elim (eqb x req) [ true ↦ entry x 0 x | false ↦ entr
 -- the work with its order list, and the leaders
 pub record MarksAndLeaders : Type 0 where
   pub marks : Marks
-  pub leads : List ℕ
+  pub leaders : List ℕ
 
 unfoldable pub kept_store : Way → Store MarksAndLeaders
 kept_store v = record {
   get = λ s x. work_store.get s.marks x;
-  mark = λ m x s. record { marks = work_store.mark m x s.marks; leads = s.leads };
-  push = λ x s. record { marks = work_store.push x s.marks; leads = note_in v s.leads x };
+  mark = λ m x s. record { marks = work_store.mark m x s.marks; leaders = s.leaders };
+  push = λ x s. record { marks = work_store.push x s.marks; leaders = note_in v s.leaders x };
   list = λ s. work_store.list s.marks;
 }
 
@@ -82,7 +82,7 @@ order_kept c v (suc n) T s x weak k = elim (allows c k) [
 
 -- the work with its order list, and the leaders, at that moment
 abbrev pub kept_of : Order → List ℕ → List ℕ → MarksAndLeaders
-kept_of o w l = record { marks = record { work = w; len = o.len }; leads = l }
+kept_of o w l = record { marks = record { work = w; len = o.len }; leaders = l }
 
 -- what the code's answer says, with work and leaders at that moment: after a refusal nothing is said of them; the calls made are told in
 -- either case

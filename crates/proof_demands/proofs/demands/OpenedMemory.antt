@@ -27,11 +27,11 @@ use Rattle.spec_c_dumper.specs.alignment_once.Once.{unknown}
 use Rattle.spec_c_dumper.proofs.alignment_once.Right.{known_unknown}
 use Rattle.spec_c_dumper.proofs.alignment_once.Counted.{paid_none}
 use Rattle.btf_layout.specs.remembered.Words.{seen_word, decoded, work_keep}
-use Rattle.proof_demands.specs.alignment_memory.Work.{Minds, Sane}
+use Rattle.proof_demands.specs.alignment_memory.Work.{SoundMemory, Sane}
 use Rattle.proof_demands.specs.demands.Table.{header_of, opened_table}
 use Rattle.proof_demands.proofs.demands.Described.{count_is, void_type}
 use Rattle.proof_demands.proofs.demands.Sound.{opened_wf}
-use Rattle.proof_demands.proofs.demands.Few.{few, types_are}
+use Rattle.proof_demands.proofs.demands.Counts.{few, types_are}
 
 pub ends : (b : TypeTable) (s w : List ℕ) (id : ℕ) → (btf_of b s w).type_cnt ≤ id → (btf_of b s w).type_by_id id ≡ Void
 unfolding btf_of
@@ -93,8 +93,8 @@ module _ (p modes : ℕ) (s : List ℕ) (n : ℕ) (ok : opening_number p s n ≡
   pub opened_sane : Sane b B
   opened_sane = record { some = some; small = pointers; wf = opened_wf p modes s n ok; ends = ends b s w; few = few p modes s n ok }
 
-  pub opened_minds : Minds B w
-  opened_minds = record {
+  pub opened_memory : SoundMemory B w
+  opened_memory = record {
     right = λ id x e. absurd (known_unknown x (sym (none id) ∙ e));
     roomy = roomy;
     count = no_visits some ∙ sym (paid_none B ((work_keep B.type_cnt B).recall w) none B.type_cnt);

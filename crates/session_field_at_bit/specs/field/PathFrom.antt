@@ -23,14 +23,14 @@ pub data Uncovered (B : Btf) (bit : ℕ) : List Member → Type 0 where
 -- The path p leads from a bit of a type inwards: through typedefs, qualifiers and type tags; to a place of an array, which lies below
 -- its count; to a member that is the first to cover the bit, where a bit field is innermost. It ends in a type that is no composite
 -- and no array, or in a composite none of whose members covers the bit.
-pub data Leads (B : Btf) : ℕ → ℕ → List ℕ → Type 0 where
-  passes : (id t bit : ℕ) (p : List ℕ) → shape_of (B.type_by_id id) ≡ through t → Leads B t bit p → Leads B id bit p
+pub data PathFrom (B : Btf) : ℕ → ℕ → List ℕ → Type 0 where
+  passes : (id t bit : ℕ) (p : List ℕ) → shape_of (B.type_by_id id) ≡ through t → PathFrom B t bit p → PathFrom B id bit p
   place : (id t count size k bit rest : ℕ) (p : List ℕ) → B.type_by_id id ≡ Array t count → get_size_of 512 B t ≡ got size → k < count
-      → bit ≡ k * (size * 8) + rest → rest < size * 8 → Leads B t rest p → Leads B id bit (k ∷ p)
+      → bit ≡ k * (size * 8) + rest → rest < size * 8 → PathFrom B t rest p → PathFrom B id bit (k ∷ p)
   member : (id k bit : ℕ) (ms : List Member) (m : Member) (p : List ℕ) → shape_of (B.type_by_id id) ≡ composite ms → First B bit m ms k
       → m.bit_size ≡ 0
-      → Leads B m.type_id (bit - m.bit_offset) p → Leads B id bit (k ∷ p)
+      → PathFrom B m.type_id (bit - m.bit_offset) p → PathFrom B id bit (k ∷ p)
   bit_field : (id k bit : ℕ) (ms : List Member) (m : Member) → shape_of (B.type_by_id id) ≡ composite ms → First B bit m ms k
-      → (m.bit_size ≡ 0 → ⊥) → Leads B id bit (k ∷ [])
-  ends : (id bit : ℕ) → shape_of (B.type_by_id id) ≡ plain → Leads B id bit []
-  gap : (id bit : ℕ) (ms : List Member) → shape_of (B.type_by_id id) ≡ composite ms → Uncovered B bit ms → Leads B id bit []
+      → (m.bit_size ≡ 0 → ⊥) → PathFrom B id bit (k ∷ [])
+  ends : (id bit : ℕ) → shape_of (B.type_by_id id) ≡ plain → PathFrom B id bit []
+  gap : (id bit : ℕ) (ms : List Member) → shape_of (B.type_by_id id) ≡ composite ms → Uncovered B bit ms → PathFrom B id bit []

@@ -14,24 +14,24 @@ use Rattle.spec_type_table.specs.Table.{work_naming}
 use Rattle.c_dumper_dependency_order.specs.order_state.Work.{Marks, mark_of, code, work_store}
 
 -- the work, the text, the next place in it, and how many places of the order list are taken
-pub record Sheet : Type 0 where
+pub record Slices : Type 0 where
   pub work : List ℕ
   pub text : List ℕ
   pub at : ℕ
   pub len : ℕ
 
-abbrev pub marks_in : Sheet → Marks
+abbrev pub marks_in : Slices → Marks
 marks_in m = record { work = m.work; len = m.len }
 
-abbrev pub with_marks : Sheet → Marks → Sheet
+abbrev pub with_marks : Slices → Marks → Slices
 with_marks m k = record { work = k.work; text = m.text; at = m.at; len = k.len }
 
-abbrev pub with_work : Sheet → List ℕ → Sheet
+abbrev pub with_work : Slices → List ℕ → Slices
 with_work m w = record { work = w; text = m.text; at = m.at; len = m.len }
 
 -- ordering's store, with the text beside it
-unfoldable pub sheet_store : Store Sheet
-sheet_store = record {
+unfoldable pub slices_store : Store Slices
+slices_store = record {
   get = λ m x. work_store.get (marks_in m) x;
   mark = λ k x m. with_marks m (work_store.mark k x (marks_in m));
   push = λ x m. with_marks m (work_store.push x (marks_in m));
@@ -44,25 +44,25 @@ emptied zero w = w
 emptied (suc k) w = put_field (emptied k w) k 11 0
 
 -- what was written, as a sheet whose order list has n places; or the refusal
-unfoldable pub sheet_of : ℕ → Wrote (List ℕ) → Out Sheet
-sheet_of n (written t at w) = wrote (record { work = w; text = t; at = at; len = n })
-sheet_of n (cut_off c) = stuck c
+unfoldable pub slices_of : ℕ → Wrote (List ℕ) → Out Slices
+slices_of n (written t at w) = wrote (record { work = w; text = t; at = at; len = n })
+slices_of n (cut_off c) = stuck c
 
 -- what the code's place says, with the text and the work at that moment
-abbrev pub emit_out : ℕ → Placed → List ℕ → List ℕ → Out Sheet
-emit_out n at t w = sheet_of n (out_of at t w)
+abbrev pub emit_out : ℕ → Placed → List ℕ → List ℕ → Out Slices
+emit_out n at t w = slices_of n (out_of at t w)
 
 -- a writer's text, put at the sheet's place
-unfoldable pub line_in : Writer (List ℕ) → Sheet → Out Sheet
-line_in v m = sheet_of m.len (put_said m.text (Ok m.at) (v m.work))
+unfoldable pub line_in : Writer (List ℕ) → Slices → Out Slices
+line_in v m = slices_of m.len (put_said m.text (Ok m.at) (v m.work))
 
 module _ (b : TypeTable) (B : Rules) where
   -- Lines by the remembering way: alignments are remembered in the work. Emission's marks stand in words 13, the flags of forward lines in
   -- words 3. The text is the lent slice, so `start` has no room to set. No list of tags is kept: whoever reasons about what is defined
   -- carries it beside the sheet.
-  unfoldable pub work_machine : Machine Sheet
+  unfoldable pub work_machine : Machine Slices
   work_machine = record {
-    store = sheet_store;
+    store = slices_store;
     start = λ room m. record { work = emptied m.len m.work; text = m.text; at = m.at; len = 0 };
     eget = λ m x. mark_of (get_field m.work x 13);
     emark = λ k x m. with_work m (put_field m.work x 13 (code k));
@@ -76,7 +76,7 @@ module _ (b : TypeTable) (B : Rules) where
   }
 
   -- the rule `emit` over it
-  unfoldable pub emit_in : ℕ → ℕ → Sheet → ℕ → Out Sheet
+  unfoldable pub emit_in : ℕ → ℕ → Slices → ℕ → Out Slices
   emit_in left cont m x = emit work_machine (table_of B) left m x cont
 
 -- A request for an id that is ordered, or is a function, a variable, a section or a tag, has nothing to do.
