@@ -64,12 +64,19 @@ extern "C" {
  * Placing mode: each pad is the widest unit that starts on a multiple of its
  * width and fits the gap, and a tail pad fills a struct to its size. Laid out
  * by the x86-64 System V rules, with pointer size 8, unions under their own word
- * and the sizes and alignments that the table gives the members' types, every
- * member is at its offset in the table, and the whole has its size. What cannot
- * be laid out so is refused by BTFDUMP_MISPLACED. A compiler may give a type
- * another size or alignment than the table: four bytes to an enum of one byte,
- * alignment 1 to a struct that is printed packed, no space to a member without a
- * name that is not printed inline.
+ * and, of each member's type and of the whole, the size and alignment that the
+ * table gives it, every member is at its offset in the table, and the whole has
+ * its size. What cannot be laid out so is refused by BTFDUMP_MISPLACED.
+ *
+ * The table's alignment of a type is the size of a number, a pointer or an enum,
+ * 8 at most, and the largest of what a struct, a union or an array holds. A
+ * compiler gives some another size or alignment, and then another place to what
+ * holds them: four bytes to an enum of 1 or 2, or of 8 where its values need no
+ * more than four; alignment 16 to a number of 16 bytes; alignment 1 to a struct
+ * that is printed packed; no space to a member without a name that is not
+ * printed inline. And a bit field without a name has no part in the alignment of
+ * what holds it: `union U { long: 3; char c; }` with size 8 in the table has size
+ * 1 in gcc and clang.
  */
 #define BTFDUMP_PLACING 4u
 /*
@@ -181,7 +188,9 @@ btfdump_answer btfdump_dump_list(uint8_t *record, size_t record_len,
  * 11, and after 10 those of the ids before it in a list, else 0. Where 22 does
  * not come, everything else is as after the plain call,
  * and so it is, with the same count, under every larger ceiling. An id that is
- * ordered already makes one call.
+ * ordered already makes one call. The ceiling bounds ordering alone: emission,
+ * which follows it, is not counted, and on a table of nameless structs or unions
+ * made for it its time doubles at each level too, even where the text has no room.
  */
 btfdump_answer btfdump_dump_type_within(uint8_t *record, size_t record_len,
 					const uint8_t *section, size_t section_len,
@@ -217,8 +226,9 @@ btfdump_answer btfdump_dump_list_within(uint8_t *record, size_t record_len,
  * 17; one with an entry for every three bytes of text is long enough for every
  * call that the plain one accepts. Everything else is as after the plain call.
  * These calls take no ceiling. A list of ids is the single requests in their order, each
- * lent what follows the entries so far. These requests keep 2 MiB more on the
- * stack and clear them for each id, or once for all ids.
+ * lent what follows the entries so far; the rest of the text slice is zeroed after each
+ * id of the list, which takes the time of that slice's length. These requests keep 2 MiB
+ * more on the stack, and clear them once a call.
  */
 btfdump_answer btfdump_dump_type_causes(uint8_t *record, size_t record_len,
 					const uint8_t *section, size_t section_len,
@@ -299,10 +309,11 @@ btfdump_answer btfdump_field(const uint8_t *record, size_t record_len,
  * The value is the length written; the rest of the output slice stays. Record
  * and section are only read, and neither work nor text is lent. The output
  * slice must not overlap the others. The time is about proportional to the
- * section's length and to the lengths of all names mentioned, up to some 250,000
- * distinct names. Past 262,144 of them, each mention of a further name takes a
- * search through all the others. Names made to collide take time with the
- * square of their number.
+ * section's length and to the lengths of all names mentioned, as long as the
+ * distinct names are well below 262,144, for which the table of names has room.
+ * As it fills, the search for each name grows; past it, each mention of a further
+ * name takes a search through all the others. Names made to collide take time
+ * with the square of their number, and with their lengths.
  *
  * Refused with value 0, nothing written, and the session still open: 11 (here:
  * no open session, another length of the section than at opening, or a section

@@ -39,23 +39,31 @@ static inline const uint8_t *next_bytes(struct cases *f, uint32_t *length, size_
 	return f->bytes + f->at - *length * size;
 }
 
-static inline struct cases open_cases(const char *path)
+static inline uint8_t *read_whole(const char *path, size_t *length)
 {
-	struct cases f = {NULL, 0, 8, 0};
 	FILE *in = fopen(path, "rb");
 	size_t room = 1 << 16, got;
+	uint8_t *bytes = need(malloc(room));
 
 	if (!in) {
 		perror(path);
 		exit(2);
 	}
-	f.bytes = need(malloc(room));
-	while ((got = fread(f.bytes + f.length, 1, room - f.length, in)) > 0) {
-		f.length += got;
-		if (f.length == room)
-			f.bytes = need(realloc(f.bytes, room *= 2));
+	*length = 0;
+	while ((got = fread(bytes + *length, 1, room - *length, in)) > 0) {
+		*length += got;
+		if (*length == room)
+			bytes = need(realloc(bytes, room *= 2));
 	}
 	fclose(in);
+	return bytes;
+}
+
+static inline struct cases open_cases(const char *path)
+{
+	struct cases f = {NULL, 0, 8, 0};
+
+	f.bytes = read_whole(path, &f.length);
 	if (f.length < 12 || memcmp(f.bytes, "BTFCASE1", 8))
 		bad_file(path);
 	f.left = next_number(&f, path);

@@ -4,10 +4,12 @@
  * the entries that are made, number, value and every byte of record, work and text
  * are those of the plain call; the entries are of ids of the table, in whole
  * entries from the list's start, and the rest is zero. One entry less is 17: the
- * session is closed and the work zero. On a small table the entries are known.
+ * session is closed and the work zero. All entries are compared with a direct
+ * computation; on a small table they are known.
  */
 #include "casefile.h"
 #include "session.h"
+#include "table.h"
 
 #define RECORD BTFDUMP_RECORD_SIZE
 #define ALL 0u /* what is asked for: an id, all ids, or the list */
@@ -25,7 +27,7 @@ struct sizes {
 };
 
 static uint32_t calls, refused, differ;
-static uint64_t lines;
+static uint64_t lines, computed[4];
 static uint8_t ids[4 * IDS];
 
 /* every third id, from the last down; with another turn the last ones are past the table */
@@ -110,7 +112,275 @@ static int is_list(const uint8_t *list, size_t len, uint64_t count, uint32_t typ
 	return 12 * count <= len && all_are(list + 12 * count, len - 12 * count, 0);
 }
 
-static const char *one_request(struct memory *m, const struct sizes *z, uint32_t id, uint32_t types)
+/* ---- the direct computation: the rules of ordering and emission, with an entry for each line */
+
+enum { REQUESTED, NEEDED, FORWARD, EARLY };
+enum { NEW, OPEN, DONE };
+
+struct direct {
+	struct table t;
+	int strong_arrays, stopped; /* stopped: a cycle, or a nameless definition */
+	uint8_t *ordered, *emitted, *forward;
+	uint32_t *listed, *leader, listed_len;
+	uint32_t *path, depth, path_room; /* the composites and typedefs being ordered, a typedef more than once */
+	uint32_t request, *entries, entries_len, entries_room;
+	uint32_t *ends, ends_len; /* entries after each id that was requested */
+};
+
+static int begin(struct direct *d, const uint8_t *section, size_t length, uint32_t modes)
+{
+	size_t n;
+
+	*d = (struct direct){.strong_arrays = modes >> 1 & 1};
+	if (!index_of(&d->t, section, length))
+		return 0;
+	n = d->t.types;
+	d->ordered = need(calloc(3, n));
+	d->emitted = d->ordered + n;
+	d->forward = d->emitted + n;
+	d->listed = need(calloc(3, n * sizeof *d->listed));
+	d->leader = d->listed + n;
+	d->ends = d->leader + n;
+	return 1;
+}
+
+static void forget(struct direct *d)
+{
+	free(d->t.places), free(d->ordered), free(d->listed), free(d->path), free(d->entries);
+}
+
+static uint32_t word(const struct direct *d, uint32_t id, uint32_t i)
+{
+	return at(&d->t, d->t.places[id] + 4 * (size_t)i);
+}
+
+static const char *name_of(const struct direct *d, uint32_t id)
+{
+	return (const char *)d->t.section + at(&d->t, 4) + at(&d->t, 16) + word(d, id, 0);
+}
+
+static int is_composite(const struct direct *d, uint32_t id)
+{
+	return kind_of(&d->t, id) == 4 || kind_of(&d->t, id) == 5;
+}
+
+static uint32_t count_of(const struct direct *d, uint32_t id)
+{
+	return word(d, id, 1) & 0xffff;
+}
+
+static void list_it(struct direct *d, uint32_t id)
+{
+	uint32_t i = d->depth, leader = d->request;
+
+	for (uint32_t j = 0; j < d->listed_len; j++)
+		if (d->listed[j] == id)
+			return; /* a typedef that is listed twice */
+	while (i > 0 && d->path[i - 1] == id)
+		i--;
+	if (i > 0)
+		leader = d->path[i - 1];
+	d->leader[id] = leader;
+	d->listed[d->listed_len++] = id;
+}
+
+static void enter(struct direct *d, uint32_t id)
+{
+	if (d->depth == d->path_room)
+		d->path = need(realloc(d->path, (d->path_room = 2 * d->depth + 64) * sizeof *d->path));
+	d->path[d->depth++] = id;
+}
+
+/* Whether the link is strong. */
+static int order(struct direct *d, uint32_t id, int weak)
+{
+	uint32_t kind = kind_of(&d->t, id);
+	int named, strong = 0;
+
+	if (d->stopped || d->ordered[id] == DONE)
+		return !d->stopped;
+	named = id && *name_of(d, id);
+	if (d->ordered[id] == OPEN) {
+		d->stopped = !(is_composite(d, id) && weak && named);
+		return 0;
+	}
+	switch (kind) {
+	case 0: case 1: case 16:
+		d->ordered[id] = DONE;
+		return 0;
+	case 2:
+		strong = order(d, word(d, id, 2), 1);
+		d->ordered[id] = DONE;
+		return strong;
+	case 3:
+		return order(d, word(d, id, 3), weak && !d->strong_arrays);
+	case 9: case 10: case 11: case 18:
+		return order(d, word(d, id, 2), weak);
+	case 13:
+		strong = order(d, word(d, id, 2), weak);
+		for (uint32_t i = 0; i < count_of(d, id); i++)
+			strong |= order(d, word(d, id, 4 + 2 * i), weak);
+		return strong;
+	case 4: case 5:
+		if (weak && named)
+			return 0;
+		d->ordered[id] = OPEN;
+		enter(d, id);
+		for (uint32_t i = 0; i < count_of(d, id); i++)
+			order(d, word(d, id, 4 + 3 * i), 0);
+		d->depth--;
+		break;
+	case 8:
+		enter(d, id);
+		strong = order(d, word(d, id, 2), weak);
+		d->depth--;
+		if (weak && !strong)
+			return 0;
+		break;
+	case 6: case 7: case 19:
+		break;
+	default:
+		return 0;
+	}
+	if (d->stopped)
+		return 0;
+	if (named || kind == 8)
+		list_it(d, id);
+	d->ordered[id] = DONE;
+	return 1;
+}
+
+static void line(struct direct *d, uint32_t id, uint32_t cause, uint32_t leader)
+{
+	if (3 * d->entries_len + 3 > d->entries_room)
+		d->entries = need(realloc(d->entries, (d->entries_room = 6 * d->entries_len + 192) * sizeof *d->entries));
+	d->entries[3 * d->entries_len] = id;
+	d->entries[3 * d->entries_len + 1] = cause;
+	d->entries[3 * d->entries_len + 2] = leader;
+	d->entries_len++;
+}
+
+/* the line of an id that is listed, or of one that is printed inside the container */
+static void line_of(struct direct *d, uint32_t id, uint32_t container, uint32_t cause)
+{
+	if (container)
+		line(d, id, cause, container);
+	else if (id == d->request)
+		line(d, id, REQUESTED, id);
+	else
+		line(d, id, NEEDED, d->leader[id]);
+}
+
+/* a forward line or an early typedef; the compiler's own type has none */
+static void ahead(struct direct *d, uint32_t id, uint32_t container, uint32_t cause)
+{
+	if (!strstr(name_of(d, id), "__builtin_va_list"))
+		line_of(d, id, container, cause);
+	d->forward[id] = 1;
+}
+
+static void emit(struct direct *d, uint32_t id, uint32_t container)
+{
+	uint32_t kind = kind_of(&d->t, id);
+	int named = id && *name_of(d, id);
+
+	if (d->stopped || d->emitted[id] == DONE)
+		return;
+	if (d->emitted[id] == OPEN) {
+		if (d->forward[id] || (kind != 8 && id == container))
+			return;
+		if (kind != 8 && !named)
+			d->stopped = 1;
+		else
+			ahead(d, id, container, kind == 8 ? EARLY : FORWARD);
+		return;
+	}
+	if (!container && !named) {
+		d->stopped = 1;
+		return;
+	}
+	switch (kind) {
+	case 2: case 9: case 10: case 11: case 18:
+		emit(d, word(d, id, 2), container);
+		break;
+	case 3:
+		emit(d, word(d, id, 3), container);
+		break;
+	case 13:
+		emit(d, word(d, id, 2), container);
+		for (uint32_t i = 0; i < count_of(d, id); i++)
+			emit(d, word(d, id, 4 + 2 * i), container);
+		break;
+	case 4: case 5:
+		d->emitted[id] = OPEN;
+		if (!container || !named)
+			for (uint32_t i = 0; i < count_of(d, id); i++)
+				emit(d, word(d, id, 4 + 3 * i), named ? id : container);
+		else if (!d->forward[id] && id != container)
+			ahead(d, id, container, FORWARD);
+		if (!container && !d->stopped)
+			line_of(d, id, 0, NEEDED);
+		d->emitted[id] = container ? NEW : DONE;
+		break;
+	case 6: case 19:
+		if (!container)
+			line_of(d, id, 0, NEEDED);
+		d->emitted[id] = DONE;
+		break;
+	case 7:
+		line_of(d, id, container, FORWARD);
+		d->emitted[id] = DONE;
+		break;
+	case 8:
+		d->emitted[id] = OPEN;
+		emit(d, word(d, id, 2), id);
+		if (!d->forward[id] && !d->stopped)
+			ahead(d, id, container, EARLY);
+		d->emitted[id] = DONE;
+		break;
+	default:
+		break;
+	}
+}
+
+static void request(struct direct *d, uint32_t id)
+{
+	d->request = id;
+	d->listed_len = d->depth = 0;
+	order(d, id, 0);
+	for (uint32_t i = 0; i < d->listed_len; i++)
+		emit(d, d->listed[i], 0);
+	if (!d->stopped && d->ends_len < d->t.types)
+		d->ends[d->ends_len++] = d->entries_len;
+}
+
+/* The entries of a call are those of its ids, or where it was refused those of the ids before that. */
+static int as_computed(struct direct *d, uint32_t id, uint32_t number, const uint8_t *list, uint64_t count)
+{
+	int is_end = count == 0;
+
+	d->entries_len = d->ends_len = 0;
+	if (id == LIST)
+		for (uint32_t i = 0; i < IDS && u32_at(ids + 4 * i) < d->t.types; i++)
+			request(d, u32_at(ids + 4 * i));
+	else if (id == ALL)
+		for (uint32_t i = 1; i < d->t.types; i++)
+			request(d, i);
+	else if (id < d->t.types)
+		request(d, id);
+	for (uint32_t i = 0; i < d->ends_len; i++)
+		is_end |= d->ends[i] == count;
+	if (number == 0 ? d->stopped || count != d->entries_len : number == 10 ? count != d->entries_len : !is_end)
+		return 0;
+	for (uint64_t i = 0; i < 3 * count; i++)
+		if (u32_at(list + 4 * i) != d->entries[i])
+			return 0;
+	for (uint64_t i = 0; i < count; i++)
+		computed[d->entries[3 * i + 1]]++;
+	return 1;
+}
+
+static const char *one_request(struct memory *m, const struct sizes *z, uint32_t id, uint32_t types, struct direct *d)
 {
 	struct memory a = same_as(m, z), b = same_as(m, z), c = same_as(m, z);
 	size_t len = 4 * z->text_len + 13; /* a line has three bytes at least */
@@ -125,6 +395,8 @@ static const char *one_request(struct memory *m, const struct sizes *z, uint32_t
 	lines += count;
 	if (long_enough != first || !equal(&a, m, z) || !is_list(list, len, count, types, left))
 		wrong = "a list that is long enough";
+	else if (number != 11 && !as_computed(d, id, number, list, count))
+		wrong = "not the entries of the direct computation";
 	else if (number == 0) {
 		if (noted(&b, z, id, other, 12 * count + 11, &again) != first || again != count || !equal(&b, m, z) ||
 		    memcmp(list, other, 12 * count) || !all_are(other + 12 * count, 11, 0))
@@ -151,20 +423,25 @@ static void one_session(const char *path, const struct one_case *c, const uint8_
 					     m.work, z.work_len, m.text, z.text_len);
 	const char *wrong = btfdump_number(opened) ? "opening" : NULL;
 	uint32_t types = btfdump_value(opened);
+	struct direct d;
+
+	if (!begin(&d, z.section, z.section_len, u32_at(opening + 8)))
+		wrong = "records";
 
 	if (by_id == 1)
 		for (uint32_t id = types; id > 0 && !wrong; id--)
-			wrong = one_request(&m, &z, id, types);
+			wrong = one_request(&m, &z, id, types, &d);
 	for (uint32_t turn = 0; by_id == 2 && turn < 3 && !wrong; turn++) {
 		fill_list(types, turn);
-		wrong = one_request(&m, &z, LIST, types);
+		wrong = one_request(&m, &z, LIST, types, &d);
 	}
 	for (int i = 0; i < 2 && !wrong; i++)
-		wrong = one_request(&m, &z, ALL, types);
+		wrong = one_request(&m, &z, ALL, types, &d);
 	if (wrong) {
 		differ++;
 		printf("%s: case '%.*s': %s\n", path, (int)c->name_len, (const char *)c->name, wrong);
 	}
+	forget(&d);
 	drop(&m);
 }
 
@@ -228,8 +505,10 @@ static void *run(void *argument)
 	for (char **path = argument; *path; path++)
 		one_file(*path);
 	known_causes();
-	printf("causes: %u requests, %llu lines, %u refused by 17 at one entry less, %u differ\n", (unsigned)calls,
-	       (unsigned long long)lines, (unsigned)refused, (unsigned)differ);
+	printf("causes: %u requests, %llu lines, %u refused by 17 at one entry less; computed directly: %llu requested, %llu needed, %llu forward, "
+	       "%llu early; %u differ\n", (unsigned)calls, (unsigned long long)lines, (unsigned)refused, (unsigned long long)computed[REQUESTED],
+	       (unsigned long long)computed[NEEDED], (unsigned long long)computed[FORWARD], (unsigned long long)computed[EARLY],
+	       (unsigned)differ);
 	return differ || !calls ? argument : NULL;
 }
 

@@ -1,11 +1,13 @@
 #!/bin/bash
-# The tests outside the language, on the static library that is built: run.sh
+# The tests outside the language, on the static library and the program that are built: run.sh
 # Each prints one line; any failure ends the script with a status that is not 0. What needs nothing of each other runs at the same time.
 set -euo pipefail
 cd "$(dirname "$0")/.."
 
 library=crates/btfdump_c/out/libbtfdump_c.a
 [ -f "$library" ] || { echo "run.sh: build $library first: (cd crates/btfdump_c && rt lib)" >&2; exit 1; }
+built=crates/btfdump/out/btfdump
+[ -f "$built" ] || { echo "run.sh: build $built first: (cd crates/btfdump && rt run <stdin)" >&2; exit 1; }
 out=build/tests
 mkdir -p "$out"
 
@@ -28,7 +30,7 @@ finish() { # waits for what was started, and prints what each said
 	at_once=()
 }
 
-for name in replay limits guard lists ceilings causes field declarations cut visits; do start compile "$name" "tests/$name.c"; done
+for name in replay limits guard lists ceilings causes field declarations cut visits program stack; do start compile "$name" "tests/$name.c"; done
 start compile btfheader tools/btfheader.c
 finish
 
@@ -42,7 +44,10 @@ python3 tests/traps.py --check
 python3 -B tests/words.py "$library"
 
 shopt -s nullglob
-files=(tests/*.cases oracle/*.cases)
+# by chance: tables with references of all kinds; names that meet, in both naming modes, with the texts that Python computes
+python3 -B tests/tables.py "$out/tables.cases" 100
+python3 -B tests/names.py "$out/names.cases" 100
+files=(tests/*.cases oracle/*.cases "$out/tables.cases")
 say() { # LABEL COMMAND ..
 	local line
 	line=$("${@:2}") || { echo "$line" >&2; exit 1; }
@@ -78,14 +83,18 @@ while left:
 open(sys.argv[1], "wb").write(t.section())
 print(sum(1 + members(i) for i in seen), top)
 END
-start "$out/causes" "${files[@]}"
-for file in "${files[@]}"; do
+# the program as LLVM builds it; and as Rattle's own compiler does, where rt ci left that too
+start "$out/program" "$built" crates/btfdump_replay/data/*.btf "${files[@]}"
+[ ! -f "$built.by-rattle" ] || start "$out/program" "$built.by-rattle" crates/btfdump_replay/data/*.btf
+start "$out/causes" "${files[@]}" "$out/names.cases"
+for file in "${files[@]}" "$out/names.cases"; do
 	start say "$file" "$out/replay" "$file"
 	start say "$file, most significant byte first" "$out/replay" -b "$file"
 done
 start "$out/limits"
 for name in lists ceilings field cut visits; do start "$out/$name" "${files[@]}"; done
 start "$out/declarations"
+start "$out/stack" tests/limits.cases
 start "$out/visits" -k $(cat "$out/unions.txt") "$out/unions.btf"
 start "$out/guard" 20000 1 "${files[@]}"
 if command -v valgrind >/dev/null; then
@@ -158,3 +167,4 @@ for program in "${programs[@]}"; do
 done
 "$out/btfheader" --help | grep -q usage
 echo "btfheader: 24 uses, ${programs[*]}"
+echo "run.sh: all passed, $SECONDS seconds"
