@@ -47,7 +47,7 @@ pub fn emit_enum_head(
     x: TypeRef,
 ) -> Result<usize, Refusal>
     ensures { out_of result text.new work.new
-        ≡ put_said text.old (Ok at) (enum_head (work_naming b.now.head) x.id (str_at b.now.head b.now.section.now x.t.name_off) work.old) }
+        ≡ put_said text.old (Ok at) (enum_head (work_naming b.now.head) x.id (str_at b.now.head b.now.section.now x.t.name_off)) work.old }
 {
     let name = resolve_type_name(b, work, x);
     let a = put_word(text, at, Word::Enum)?;

@@ -82,7 +82,7 @@ fn emit_values(
 ) -> Result<usize, Refusal>
     ensures { out_of result text.new work.new
         ≡ put_said text.old (Ok at) (emit_values (work_naming b.now.head) (btf_of b.now.head b.now.section.now work.old)
-        (value_text (is_wide x.t) (flag_of x.t.info)) x.id lvl 0 (enum_values b.now.head b.now.section.now x.t) work.old) }
+        (value_text (is_wide x.t) (flag_of x.t.info)) x.id lvl 0 (enum_values b.now.head b.now.section.now x.t)) work.old }
 {
     let values = entries_of(x.t);
     let is_signed = kind_flag_of(x.t.info);
@@ -110,7 +110,7 @@ pub fn emit_enum_def(
     ensures { out_of result text.new work.new
         ≡ put_said text.old (Ok at) (emit_enum_def (work_naming b.now.head) (btf_of b.now.head b.now.section.now work.old)
         (value_text (is_wide x.t) (flag_of x.t.info)) x.id (str_at b.now.head b.now.section.now x.t.name_off)
-        (enum_values b.now.head b.now.section.now x.t) lvl work.old) }
+        (enum_values b.now.head b.now.section.now x.t) lvl) work.old }
 {
     if b.is_builtin(x.t.name_off) {
         return Ok(at);

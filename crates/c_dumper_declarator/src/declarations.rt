@@ -74,7 +74,7 @@ pub fn emit_type_decl(
     ensures { out_of result text.new work.new
         ≡ put_said text.old (Ok at) (emit_type_decl_once (work_asks b.now.head.types (btf_of b.now.head b.now.section.now work.old))
         (work_naming b.now.head) (btf_of b.now.head b.now.section.now work.old) left d.id (name_text b.now.head b.now.section.now d.name)
-        d.lvl work.old) }
+        d.lvl) work.old }
 {
     if left == 0 {
         return Err(Refusal::TooDeep);
@@ -100,7 +100,7 @@ fn emit_based(
         ≡ put_said text.old (Ok at) (emit_type_chain_once (work_asks b.now.head.types (btf_of b.now.head b.now.section.now work.old))
         (work_naming b.now.head) (btf_of b.now.head b.now.section.now work.old) left
         (entry.base base.x.id ∷ chain_at b.now.head b.now.section.now work.old d.id base.n) (name_text b.now.head b.now.section.now d.name)
-        d.lvl work.old) }
+        d.lvl) work.old }
 {
     if left == 0 {
         return Err(Refusal::TooDeep);
@@ -134,8 +134,7 @@ fn emit_type_chain(
     ensures { out_of result text.new work.new
         ≡ put_said text.old (Ok at) (emit_type_chain_once (work_asks b.now.head.types (btf_of b.now.head b.now.section.now work.old))
         (work_naming b.now.head) (btf_of b.now.head b.now.section.now work.old) left
-        (chain_at b.now.head b.now.section.now work.old d.id n) (name_text b.now.head b.now.section.now d.name) d.lvl
-        work.old) }
+        (chain_at b.now.head b.now.section.now work.old d.id n) (name_text b.now.head b.now.section.now d.name) d.lvl) work.old }
 {
     if left == 0 {
         return Err(Refusal::TooDeep);
@@ -162,7 +161,7 @@ fn emit_links(
     ensures { out_of result text.new work.new
         ≡ put_said text.old (Ok at) (chain_rest (work_asks b.now.head.types (btf_of b.now.head b.now.section.now work.old))
         (work_naming b.now.head) (btf_of b.now.head b.now.section.now work.old) below (name_text b.now.head b.now.section.now d.name) d.lvl
-        false c.last_was_ptr (chain_at b.now.head b.now.section.now work.old d.id c.n) work.old) }
+        false c.last_was_ptr (chain_at b.now.head b.now.section.now work.old d.id c.n)) work.old }
 {
     let mut p = at;
     let mut rest = c;
@@ -214,7 +213,7 @@ fn emit_entry(
         ≡ put_said text.old (Ok at)
         (entry_text (work_asks b.now.head.types (btf_of b.now.head b.now.section.now work.old)) (work_naming b.now.head)
         (btf_of b.now.head b.now.section.now work.old) below (name_text b.now.head b.now.section.now d.name) d.lvl
-        c.last_was_ptr (chain_at b.now.head b.now.section.now work.old d.id c.n) work.old))
+        c.last_was_ptr (chain_at b.now.head b.now.section.now work.old d.id c.n)) work.old)
         × IfOk result (λ s. RestIs (chain_at b.now.head b.now.section.now work.old d.id) c.n s.rest) }
 {
     let n = c.n - 1;
@@ -265,13 +264,13 @@ fn emit_function(
     requires { (0 < c.n) × LeadOn b.now.head b.now.section.now work.old d.id c.n }
     ensures { out_of result text.new work.new
         ≡ put_said text.old (Ok at)
-        ((put (mods (chain_at b.now.head b.now.section.now work.old d.id (c.n - 1)))
+        (put (mods (chain_at b.now.head b.now.section.now work.old d.id (c.n - 1)))
         ⨾ proto_below (work_asks b.now.head.types (btf_of b.now.head b.now.section.now work.old)) (work_naming b.now.head)
         (btf_of b.now.head b.now.section.now work.old) below (name_text b.now.head b.now.section.now d.name) d.lvl
         c.last_was_ptr (no_mods (chain_at b.now.head b.now.section.now work.old d.id (c.n - 1)))
         ⨾ param_list_below (work_asks b.now.head.types (btf_of b.now.head b.now.section.now work.old)) (work_naming b.now.head)
         (btf_of b.now.head b.now.section.now work.old) below (name_text b.now.head b.now.section.now d.name) d.lvl
-        (params_of b.now.head b.now.section.now t)) work.old) }
+        (params_of b.now.head b.now.section.now t)) work.old }
 {
     let n = c.n - 1;
     let m = skip_mods(b, work, d.id, n);
@@ -293,8 +292,8 @@ fn emit_base(
 ) -> Result<usize, Refusal>
     ensures { out_of result text.new work.new
         ≡ put_said text.old (Ok at) (word_below (work_asks b.now.head.types (btf_of b.now.head b.now.section.now work.old))
-        (work_naming b.now.head) (btf_of b.now.head b.now.section.now work.old) below lvl x.id (type_of b.now.head b.now.section.now x.t)
-        work.old) }
+        (work_naming b.now.head) (btf_of b.now.head b.now.section.now work.old) below lvl x.id
+        (type_of b.now.head b.now.section.now x.t)) work.old }
 {
     match Kind::of(x.t.info) {
         Kind::Int | Kind::Float => b.put_str(text, at, x.t.name_off),
@@ -322,8 +321,7 @@ fn emit_composite_word(
         ≡ put_said text.old (Ok at) (word_below (work_asks b.now.head.types (btf_of b.now.head b.now.section.now work.old))
         (work_naming b.now.head) (btf_of b.now.head b.now.section.now work.old) below lvl x.id
         (Composite (eqb (kind_of x.t.info) 4) (record_name b.now.head b.now.section.now x.t) x.t.type_id
-        (members_of b.now.head b.now.section.now x.t))
-        work.old) }
+        (members_of b.now.head b.now.section.now x.t))) work.old }
 {
     if b.is_empty(x.t.name_off) {
         return emit_composite_def(b, work, text, at, x, lvl, below);
@@ -347,7 +345,7 @@ fn emit_array(
     ensures { out_of result text.new work.new
         ≡ put_said text.old (Ok at) (array_below (work_asks b.now.head.types (btf_of b.now.head b.now.section.now work.old))
         (work_naming b.now.head) (btf_of b.now.head b.now.section.now work.old) below (name_text b.now.head b.now.section.now d.name) d.lvl
-        c.last_was_ptr (chain_at b.now.head b.now.section.now work.old d.id c.n) work.old) }
+        c.last_was_ptr (chain_at b.now.head b.now.section.now work.old d.id c.n)) work.old }
 {
     if c.n == 0 {
         return emit_name(b, text, at, d.name, c.last_was_ptr);
@@ -378,7 +376,7 @@ fn emit_proto(
     ensures { out_of result text.new work.new
         ≡ put_said text.old (Ok at) (proto_below (work_asks b.now.head.types (btf_of b.now.head b.now.section.now work.old))
         (work_naming b.now.head) (btf_of b.now.head b.now.section.now work.old) below (name_text b.now.head b.now.section.now d.name) d.lvl
-        c.last_was_ptr (chain_at b.now.head b.now.section.now work.old d.id c.n) work.old) }
+        c.last_was_ptr (chain_at b.now.head b.now.section.now work.old d.id c.n)) work.old }
 {
     if c.n == 0 {
         return emit_name(b, text, at, d.name, c.last_was_ptr);
@@ -402,7 +400,7 @@ fn emit_params(
     ensures { out_of result text.new work.new
         ≡ put_said text.old (Ok at) (params_below (work_asks b.now.head.types (btf_of b.now.head b.now.section.now work.old))
         (work_naming b.now.head) (btf_of b.now.head b.now.section.now work.old) below lvl
-        (shown_params (from (param_of b.now.head b.now.section.now params.at) 0 params.vlen)) work.old) }
+        (shown_params (from (param_of b.now.head b.now.section.now params.at) 0 params.vlen))) work.old }
 {
     let shown = shown_params(b, params);
     let mut p = put_byte(text, at, b'(')?;
@@ -428,7 +426,7 @@ fn emit_param(
         ≡ put_said text.old (Ok at) (param_text
         (λ id name. emit_type_decl_once (work_asks b.now.head.types (btf_of b.now.head b.now.section.now work.old)) (work_naming b.now.head)
         (btf_of b.now.head b.now.section.now work.old) below id name lvl) (eqb k 0) (param_of b.now.head b.now.section.now params.at k)
-        (leb params.vlen (k + 1)) work.old) }
+        (leb params.vlen (k + 1))) work.old }
 {
     let p = param_place(params.at, k);
     let type_id = b.word(p + 4);

@@ -34,7 +34,7 @@ pub fn emit_definition(
 ) -> Result<usize, Refusal>
     ensures { out_of result text.new work.new
         ≡ put_said text.old (Ok at) (definition_once (work_asks b.now.head.types (btf_of b.now.head b.now.section.now work.old))
-        (work_naming b.now.head) (btf_of b.now.head b.now.section.now work.old) x.id (type_of b.now.head b.now.section.now x.t) work.old) }
+        (work_naming b.now.head) (btf_of b.now.head b.now.section.now work.old) x.id (type_of b.now.head b.now.section.now x.t)) work.old }
 {
     match Kind::of(x.t.info) {
         Kind::Struct | Kind::Union => {
@@ -63,7 +63,7 @@ pub fn emit_forward(
 ) -> Result<usize, Refusal>
     ensures { out_of result text.new work.new
         ≡ put_said text.old (Ok at) (forward_once (work_asks b.now.head.types (btf_of b.now.head b.now.section.now work.old))
-        (work_naming b.now.head) (btf_of b.now.head b.now.section.now work.old) x.id (type_of b.now.head b.now.section.now x.t) work.old) }
+        (work_naming b.now.head) (btf_of b.now.head b.now.section.now work.old) x.id (type_of b.now.head b.now.section.now x.t)) work.old }
 {
     if b.is_builtin(x.t.name_off) {
         return Ok(at);

@@ -27,7 +27,7 @@ pub fn emit_typedef_def(
     ensures { out_of result text.new work.new
         ≡ put_said text.old (Ok at) (emit_typedef_def_once (work_asks b.now.head.types (btf_of b.now.head b.now.section.now work.old))
         (work_naming b.now.head) (btf_of b.now.head b.now.section.now work.old) x.id
-        (str_at b.now.head b.now.section.now x.t.name_off) x.t.type_id work.old) }
+        (str_at b.now.head b.now.section.now x.t.name_off) x.t.type_id) work.old }
 {
     let name = resolve_type_name(b, work, x);
     let d = Declarator {

@@ -46,7 +46,7 @@ fn emit_keyed_name(
 ) -> Result<usize, Refusal>
     ensures { out_of result text.new work.new
         ≡ put_said text.old (Ok at) (emit_composite_fwd (work_naming b.now.head) (btf_of b.now.head b.now.section.now work.old) x.id
-        is_struct (str_at b.now.head b.now.section.now x.t.name_off) work.old) }
+        is_struct (str_at b.now.head b.now.section.now x.t.name_off)) work.old }
 {
     if b.is_builtin(x.t.name_off) {
         return Ok(at);
@@ -67,7 +67,7 @@ pub fn emit_composite_fwd(
 ) -> Result<usize, Refusal>
     ensures { out_of result text.new work.new
         ≡ put_said text.old (Ok at) (emit_composite_fwd (work_naming b.now.head) (btf_of b.now.head b.now.section.now work.old) x.id
-        (eqb (kind_of x.t.info) 4) (str_at b.now.head b.now.section.now x.t.name_off) work.old) }
+        (eqb (kind_of x.t.info) 4) (str_at b.now.head b.now.section.now x.t.name_off)) work.old }
 {
     emit_keyed_name(b, work, text, at, x, is_struct(x.t))
 }
@@ -82,7 +82,7 @@ pub fn emit_fwd_def(
 ) -> Result<usize, Refusal>
     ensures { out_of result text.new work.new
         ≡ put_said text.old (Ok at) (emit_fwd_def (work_naming b.now.head) (btf_of b.now.head b.now.section.now work.old) x.id
-        (flag_of x.t.info) (str_at b.now.head b.now.section.now x.t.name_off) work.old) }
+        (flag_of x.t.info) (str_at b.now.head b.now.section.now x.t.name_off)) work.old }
 {
     emit_keyed_name(b, work, text, at, x, !kind_flag_of(x.t.info))
 }

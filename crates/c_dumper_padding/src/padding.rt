@@ -53,7 +53,7 @@ pub fn emit_bit_padding(
 ) -> Result<usize, Refusal>
     ensures { out_of result text.new work.new
         ≡ put_said text.old (Ok at) (pad_said b.now.head.types (btf_of b.now.head b.now.section.now work.old) offset
-        (rule_member b.now.head b.now.section.now m) packed lvl work.old) }
+        (rule_member b.now.head b.now.section.now m) packed lvl) work.old }
 {
     let end = m.bit_offset;
     if end <= offset {

@@ -101,10 +101,12 @@ module _ (p modes : ℕ) (s : List ℕ) (n : ℕ) (y : Bytes s) (ok : opening_nu
       ap {B = Resolved Apart}
       (λ (k : ℕ). elim (eqb (get_or u.names.versions id 0) 0) as (λ (b : Bool). Resolved Apart) [
         | false ↦ record {
+          passes = false;
           version = get_or u.names.versions id 0;
           names = record { names = u.names; printed = shown space (of_type id) name (get_or u.names.versions id 0) u };
         }
         | true ↦ record {
+          passes = false;
           version = k;
           names = record {
             names = record { versions = set u.names.versions id k; ledger = with_one u.names.ledger space name };
@@ -119,6 +121,7 @@ module _ (p modes : ℕ) (s : List ℕ) (n : ℕ) (y : Bytes s) (ok : opening_nu
   value_same id i name u =
       ap {B = Resolved Apart}
       (λ (k : ℕ). record {
+        passes = false;
         version = k;
         names = record {
           names = record { versions = u.names.versions; ledger = with_one u.names.ledger ident_space name };
@@ -141,6 +144,7 @@ module _ (p modes : ℕ) (s : List ℕ) (n : ℕ) (y : Bytes s) (ok : opening_nu
   unfolding type_watched value_watched
   watched_same j = record {
     type_version = λ space id name w. record {
+      passes = (type_same space id name w.names j).passes;
       version = (type_same space id name w.names j).version;
       names = record {
         names = (type_same space id name w.names j).names;
@@ -148,22 +152,26 @@ module _ (p modes : ℕ) (s : List ℕ) (n : ℕ) (y : Bytes s) (ok : opening_nu
       };
     };
     value_version = λ id i name w. record {
+      passes = (value_same id i name w.names j).passes;
       version = (value_same id i name w.names j).version;
       names = record { names = (value_same id i name w.names j).names; over = over_same ident_space name w.names j || w.over };
     };
+    leaving = λ held w. w;
   }
 
   lines_same : (N : Naming Watched) → lines_watched N B ≡ lines_watched N E
   lines_same N j = record {
-    fwd = λ room k id. line_watched room k.text_len (forwards p modes s n y ok N id j k.names);
-    alias' = λ room k id. line_watched room k.text_len (forwards p modes s n y ok N id j k.names);
-    leaf' = λ room k id. line_watched room k.text_len (definitions p modes s n y ok N id j k.names);
-    body' = λ room k id. line_watched room k.text_len (definitions p modes s n y ok N id j k.names);
+    fwd = λ room k id. line_watched room k (forwards p modes s n y ok N id j k.names);
+    alias' = λ room k id. line_watched room k (forwards p modes s n y ok N id j k.names);
+    leaf' = λ room k id. line_watched room k (definitions p modes s n y ok N id j k.names);
+    body' = λ room k id. line_watched room k (definitions p modes s n y ok N id j k.names);
+    held' = λ k. k.names;
+    leaving' = λ held k. record { names = N.leaving held k.names; text_len = k.text_len };
   }
 
   none_passed : (rs : List Req) → PassesNone (table_in p modes s) rs → PassesNone B rs
   none_passed rs h =
-      subst (λ (L : Lines (Known Watched)). NeverOver L (table_of B) rs (opened_watched B)) (sym (lines_same (watched B)))
+      subst (λ (L : Lines (Known Watched) Watched). NeverOver L (table_of B) rs (opened_watched B)) (sym (lines_same (watched B)))
       (subst (λ (N : Naming Watched). NeverOver (lines_watched N E) (table_of E) rs (opened_by N E (none_watched E))) (sym watched_same)
       (subst (λ (X : Btf). PassesNone X rs) (sym (table_is p modes s n y ok)) h))
 

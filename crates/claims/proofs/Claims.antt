@@ -18,7 +18,11 @@ use Rattle.spec_session.proofs.metered.ListClaims.{list_fits}
 use Rattle.proof_demands.proofs.demands.Orders.{big_header, other_magic}
 use Rattle.proof_declaration_reader.proofs.Bound.{exactly}
 use Rattle.proof_declaration_reader.proofs.Decoding.{decodes, numbered, reads_back}
+use Rattle.proof_two_headers.proofs.Accounts.{accounts}
 use Rattle.proof_two_headers.proofs.Claims.{two_headers}
+use Rattle.proof_two_headers.proofs.Demands.{third_demand}
+use Rattle.proof_two_headers.proofs.Reserves.{reserves}
+use Rattle.proof_two_headers.proofs.Spellings.{spellings}
 use Rattle.session_field_at_bit.proofs.field.Sound.{sound}
 use Rattle.session_field_at_bit.proofs.field.Unique.{unique}
 use Rattle.session_field_at_bit.proofs.field.Claims.{refused_leaves}
@@ -79,7 +83,7 @@ claims = record {
   request08 = session_apart_alike;
   request08_c = c_apart_alike;
   request09 = record { reads_back = reads_back; exactly = exactly; decodes = decodes; numbered = numbered };
-  request10 = two_headers;
+  request10 = record { alone = two_headers; accounts = accounts; spellings = spellings; demands = third_demand; reserves = reserves };
   request11 = record { is_path = sound; unique = unique; refused = refused_leaves };
   request12 = session_reasoned;
   request13 = record {

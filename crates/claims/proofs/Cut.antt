@@ -48,7 +48,7 @@ use Rattle.claims.proofs.CutCall.{none_holds, number_told, untouched, value_is, 
 
 -- ---- what the rules come to over a table, by its machine
 
-module _ (X : Machine (Ls (Known Names))) (T : Table) where
+module _ (X : Machine (Ls (Known Names)) Names) (T : Table) where
   answer_by : Sess (Ls (Known Names)) → Req → Answer (Ls (Known Names))
   answer_by S (one room x) = single X T room S x
   answer_by S (all room) = every X T room S S.is_open
@@ -83,7 +83,7 @@ dump_described p modes s n y ok rs =
 
 -- a request for void in an open session is not refused by 11
 module _ (N : Naming Names) (B : Btf) (S : Sess (Ls (Known Names))) where
-  abbrev X : Machine (Ls (Known Names))
+  abbrev X : Machine (Ls (Known Names)) Names
   X = machine_by N B
 
   abbrev Not11 : Res (Ls (Known Names)) → Type 0

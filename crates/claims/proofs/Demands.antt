@@ -198,7 +198,7 @@ module _ (p modes : ℕ) (s : List ℕ) (n : ℕ) where
       (claims.after_list c rs (session_after a) text l.long l.begins (ids_in ids))
 
   module _ (c : Call) (rs : List Req) (a : claims.After p modes s n c rs) where
-    abbrev X : Machine (Ls (Known Names))
+    abbrev X : Machine (Ls (Known Names)) Names
     X = machine_in p modes s n
 
     abbrev T : Table

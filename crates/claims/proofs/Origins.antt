@@ -51,11 +51,11 @@ use Rattle.claims.proofs.Names.{plain_are, passed_are, taken, right, ends}
 use Rattle.claims.proofs.Demands.{tells_by, session_after, session_sound, session_stated}
 
 -- ---- an accepted call has zeroed what follows its entries
-module _ {M : Type 0} (X : Machine M) (T : Table) (more shows : ℕ → Bool) (size : ℕ) where
-  emitted_zeroed : (t : Explaining M) (x : ℕ) (o : Out (Traced M)) → (emitted_traced X T more shows t x o).zeroed ≡ true
+module _ {M H : Type 0} (X : Machine M H) (T : Table) (more shows : ℕ → Bool) (size : ℕ) where
+  emitted_zeroed : (t : Explaining M) (x : ℕ) (o : Out (Traced M) H) → (emitted_traced X T more shows t x o).zeroed ≡ true
   unfolding emitted_traced dropped
   emitted_zeroed t x (wrote m) = refl
-  emitted_zeroed t x (stuck e) = refl
+  emitted_zeroed t x (stuck h e) = refl
 
   ordered_zeroed : (t : Explaining M) (x : ℕ) (r : Res (WithLeaders M)) → (ordered_traced X T more shows t x r).zeroed ≡ true
   unfolding ordered_traced dropped
@@ -142,7 +142,7 @@ module _ (p modes : ℕ) (s : List ℕ) (n : ℕ) {U : Type 0} (N : Naming U) (u
   abbrev T : Table
   T = table_of D
 
-  abbrev X : Machine State
+  abbrev X : Machine State U
   X = machine_by N D
 
   abbrev S : Sess State
@@ -234,16 +234,19 @@ module _ (p modes : ℕ) (s : List ℕ) (n : ℕ) (c : Call) (rs : List Req) (a 
       listed_rules =
           subst (λ (N : Naming Names). ByRules on_session session_lending s (machine_by N D') (table_of D') (shows_in D') c (ruled on_session p modes s n N (no_names D') rs)) (passed_are p modes s n on) over
 
+      abbrev pub NamesNear : Apart → Names → Type 0
+      NamesNear = Like D' (taken p modes s n) (right p modes s n y sound on)
+
       -- the sessions with these lists and with the names of the mode differ in the names only
       abbrev pub Near : Ls (Known Apart) → Ls (Known Names) → Type 0
-      Near = Nearly (Like D' (taken p modes s n) (right p modes s n y sound on)) D'.type_cnt
+      Near = Nearly NamesNear D'.type_cnt
 
-      pub names_near : AlikeMachine (machine_by (apart D') D') (machine_by L D') D'.type_cnt (Sized D'.type_cnt) Near
-      names_near = names_alike (Like D' (taken p modes s n) (right p modes s n y sound on)) (Fits D') (FitsValue D') (apart D') L (like D' (taken p modes s n) (right p modes s n y sound on)) D' (fits D' (ends p modes s n y sound))
+      pub names_near : AlikeMachine (machine_by (apart D') D') (machine_by L D') D'.type_cnt (Sized D'.type_cnt) Near NamesNear
+      names_near = names_alike NamesNear (Fits D') (FitsValue D') (apart D') L (like D' (taken p modes s n) (right p modes s n y sound on)) D' (fits D' (ends p modes s n y sound))
 
       pub sessions : BothSess Near (ruled on_session p modes s n (apart D') (none_shown D') rs) (ruled on_session p modes s n L (no_names D') rs)
       unfolding afresh
-      sessions = run_alike (machine_by (apart D') D') (machine_by L D') (table_of D') (Sized D'.type_cnt) (machine_lawful L D' D'.type_cnt) (described_wf p modes s n y sound).below Near names_near rs
+      sessions = run_alike (machine_by (apart D') D') (machine_by L D') (table_of D') (Sized D'.type_cnt) (machine_lawful L D' D'.type_cnt) (described_wf p modes s n y sound).below Near NamesNear names_near rs
           (opened_by (apart D') D' (none_shown D')) (opened_by L D' (no_names D')) (record {
             same_open = refl;
             same_asked = refl;
@@ -284,15 +287,15 @@ module _ (p modes : ℕ) (s : List ℕ) (n : ℕ) (c : Call) (rs : List Req) (a 
         where
           both_one : (es : List ℕ) (room x : ℕ) → BothCauses Near (one_causes (machine_by (apart D') D') (table_of D') (shows_in D') es room (ruled on_session p modes s n (apart D') (none_shown D') rs) x)
               (one_causes (machine_by L D') (table_of D') (shows_in D') es room (ruled on_session p modes s n L (no_names D') rs) x)
-          both_one es room x = one_causes_lem (machine_by (apart D') D') (machine_by L D') (table_of D') (Sized D'.type_cnt) (machine_lawful L D' D'.type_cnt) (described_wf p modes s n y sound).below Near names_near (shows_in D') es room _ _ sessions x
+          both_one es room x = one_causes_lem (machine_by (apart D') D') (machine_by L D') (table_of D') (Sized D'.type_cnt) (machine_lawful L D' D'.type_cnt) (described_wf p modes s n y sound).below Near NamesNear names_near (shows_in D') es room _ _ sessions x
 
           both_all : (es : List ℕ) (room : ℕ) → BothCauses Near (all_causes (machine_by (apart D') D') (table_of D') (shows_in D') es room (ruled on_session p modes s n (apart D') (none_shown D') rs))
               (all_causes (machine_by L D') (table_of D') (shows_in D') es room (ruled on_session p modes s n L (no_names D') rs))
-          both_all es room = all_causes_lem (machine_by (apart D') D') (machine_by L D') (table_of D') (Sized D'.type_cnt) (machine_lawful L D' D'.type_cnt) (described_wf p modes s n y sound).below Near names_near (shows_in D') es room _ _ sessions
+          both_all es room = all_causes_lem (machine_by (apart D') D') (machine_by L D') (table_of D') (Sized D'.type_cnt) (machine_lawful L D' D'.type_cnt) (described_wf p modes s n y sound).below Near NamesNear names_near (shows_in D') es room _ _ sessions
 
           both_list : (es : List ℕ) (room : ℕ) (xs : List ℕ) → BothCauses Near (list_causes (machine_by (apart D') D') (table_of D') (shows_in D') es room (ruled on_session p modes s n (apart D') (none_shown D') rs) xs)
               (list_causes (machine_by L D') (table_of D') (shows_in D') es room (ruled on_session p modes s n L (no_names D') rs) xs)
-          both_list es room xs = list_causes_lem (machine_by (apart D') D') (machine_by L D') (table_of D') (Sized D'.type_cnt) (machine_lawful L D' D'.type_cnt) (described_wf p modes s n y sound).below Near names_near (shows_in D') es room _ _ sessions xs
+          both_list es room xs = list_causes_lem (machine_by (apart D') D') (machine_by L D') (table_of D') (Sized D'.type_cnt) (machine_lawful L D' D'.type_cnt) (described_wf p modes s n y sound).below Near NamesNear names_near (shows_in D') es room _ _ sessions xs
 
 -- ---- the claim
 

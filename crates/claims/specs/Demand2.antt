@@ -35,7 +35,7 @@ module _ {R C : Type 0} (K : Calls R C) where
     pub later_list : K.is_open c ≡ false → (text ids : List ℕ) → 4 ≤ length ids → Eleven c text 0 (K.request_list c s text ids)
 
   -- c: what the last call left; S: the session of the rules after the same requests, by the machine X over the types T
-  module _ (s : List ℕ) {U : Type 0} (X : Machine (Ls (Known U))) (T : Table) where
+  module _ (s : List ℕ) {U : Type 0} (X : Machine (Ls (Known U)) U) (T : Table) where
     -- DEMAND 2: "For every section that opening accepts, [..] the text and the cycle and nameless refusals equal the Rust's"
     pub record Demand2 (c : C) (S : Sess (Ls (Known U))) : Type 0 where
       -- "The text after the list is the slice up to the text length last returned, at first 0; it equals, byte for byte, the pieces of

@@ -15,7 +15,7 @@ use Rattle.claims.specs.Calls.{Calls, Lent}
 module _ {R C : Type 0} (K : Calls R C) (s : List ℕ) where
   -- "while the session is open, the next request for a named composite, unless too deep, is refused as a cycle exactly when a chain of
   -- needs from it meets some composite twice"
-  abbrev pub Cycles : {U : Type 0} → Machine (Ls (Known U)) → Table → C → Sess (Ls (Known U)) → Type 0
+  abbrev pub Cycles : {U : Type 0} → Machine (Ls (Known U)) U → Table → C → Sess (Ls (Known U)) → Type 0
   Cycles X T c S =
       K.is_open c ≡ true → (text : List ℕ) → Lent K c text → (id : ℕ) → id < T.count → NamedComp T id
       → (ordering X T (length text) S id ≡ refused 12 → ⊥)

@@ -42,8 +42,8 @@ module _ {R C : Type 0} (K : Calls R C) (W : Lending C) where
   -- "A call lent a list gives, beside the text, for each top-level line [..] its id, its cause [..] and the id that led there": number,
   -- text, count and list are those of the rules with entries. c: what the last call left; S: the session of the rules after the same
   -- requests, by the machine X over the types T; shows: which forward lines and typedefs print anything; l: the lent list
-  pub record ByRules (s : List ℕ) {U : Type 0} (X : Machine (Ls (Known U))) (T : Table) (shows : ℕ → Bool) (c : C) (S : Sess (Ls (Known U)))
-      : Type 0 where
+  pub record ByRules (s : List ℕ) {U : Type 0} (X : Machine (Ls (Known U)) U) (T : Table) (shows : ℕ → Bool) (c : C)
+      (S : Sess (Ls (Known U))) : Type 0 where
     pub one : (text : List ℕ) → Lent K c text → (id : ℕ) (l : List ℕ)
         → Agrees (W.request c s text id l) (one_causes X T shows l (length text) S id)
     pub one_text : (text : List ℕ) → Lent K c text → (id : ℕ) (l : List ℕ)

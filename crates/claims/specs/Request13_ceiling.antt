@@ -23,7 +23,7 @@ use Rattle.claims.specs.Carried.{Carries}
 use Rattle.claims.specs.Ours.{on_session, session_carrying}
 
 -- the calls of ordering that a request for an id opens by the plain rule, in the session S, with room for so many bytes of text
-abbrev pub calls_for : {U : Type 0} → Machine (Ls (Known U)) → Table → ℕ → Sess (Ls (Known U)) → ℕ → ℕ
+abbrev pub calls_for : {U : Type 0} → Machine (Ls (Known U)) U → Table → ℕ → Sess (Ls (Known U)) → ℕ → ℕ
 calls_for X T room S id = calls X.store 512 T (X.start room S.mach) id false
 
 -- pointer size, modes, section and length of the work, as at opening

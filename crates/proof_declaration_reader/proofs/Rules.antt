@@ -9,7 +9,7 @@ use lib.Dec.{eqb}
 use Rattle.spec_bytes.specs.text.Text.{ascii, whole, cut, join}
 use Rattle.spec_c_dumper.specs.rules.Types.{Name, is_empty, Qualifier, Param, Btf}
 use Rattle.spec_c_dumper.specs.rules.Names.{Naming}
-use Rattle.spec_c_dumper.specs.rules.Writer.{got, too_deep, Writer, Said, said, after, next, put, stop, given, ◌⨾◌}
+use Rattle.spec_c_dumper.specs.rules.Writer.{got, too_deep, Writer, Said, said, held_by, after, next, put, stop, given, ◌⨾◌}
 use Rattle.spec_c_dumper.specs.rules.Decl.{Entry, base, star, array as count, proto as list, chain_of, mods, no_mods, no_params, shown_params, sep_name, qualifier, brackets, parens, emit_name, emit_param, emit_params, emit_array, emit_proto, param_list, chain_loop, emit_type_decl, emit_type_chain, emit_composite_def}
 use Rattle.session_declaration_reader.specs.grammar.Chain.{Layers, named, pointer, array, proto, Params, closed, dots, param, Chain}
 use Rattle.session_declaration_reader.specs.reader.Reading.{chain, read}
@@ -41,7 +41,7 @@ Told U = Said U → U → List ℕ → Type 0
 
 -- what the proof asks of the two
 record Telling (U : Type 0) (Is : Told U) (Enough : ℕ → ℕ → Type 0) : Type 0 where
-  whole_is : (v : U) (t : List ℕ) → Is (said v (whole t)) v t
+  whole_is : (v : U) (t : List ℕ) (m : List U) → Is (said v (whole t) m) v t
   next_is : (x : Said U) (w : Writer U) (u₁ u₂ : U) (a b : List ℕ) → Is x u₁ a → Is (w u₁) u₂ b → Is (next x w) u₂ (a ++ b)
   stopped : (n : ℕ) (u v : U) (t : List ℕ) → Enough (suc n) zero → Is (stop too_deep u) v t
   fewer : (n left : ℕ) → Enough (suc n) (suc left) → Enough n left
@@ -63,16 +63,16 @@ module _ {U : Type 0} (Is : Told U) (Enough : ℕ → ℕ → Type 0) (T : Telli
 
   put_seq : (a b : List ℕ) (w : Writer U) (u v : U) → Is (w u) v b → Is ((put a ⨾ w) u) v (a ++ b)
   unfolding put
-  put_seq a b w u v e = seq (put a) w u u v a b (T.whole_is u a) e
+  put_seq a b w u v e = seq (put a) w u u v a b (T.whole_is u a (held_by u a)) e
 
   seq_put : (a b : List ℕ) (w : Writer U) (u v : U) → Is (w u) v a → Is ((w ⨾ put b) u) v (a ++ b)
   unfolding put
-  seq_put a b w u v e = seq w (put b) u v v a b e (T.whole_is v b)
+  seq_put a b w u v e = seq w (put b) u v v a b e (T.whole_is v b (held_by v b))
 
   name_is : (f : Name) (p : Bool) (u : U) → Is (emit_name f p u) u (name_part f p)
   unfolding emit_name name_part put
-  name_is f true u = T.whole_is u f
-  name_is f false u = T.whole_is u (sep_name f)
+  name_is f true u = T.whole_is u f (held_by u f)
+  name_is f false u = T.whole_is u (sep_name f) (held_by u (sep_name f))
 
   module _ (N : Naming U) (B : Btf) (lvl : ℕ) where
     -- what a chain's loop writes, from an entry on
@@ -330,7 +330,7 @@ module _ {U : Type 0} (Is : Told U) (Enough : ℕ → ℕ → Type 0) (T : Telli
         v
         (spaced ws)
         t
-        (via (pr _ _ _ fname lvl) (T.whole_is w (spaced ws)))
+        (via (pr _ _ _ fname lvl).1 (T.whole_is w (spaced ws) _))
         (via
         (ap (λ (x : List Entry). loop left fname (length (qual_entries q c)) false x w) k.1)
         (ih c w v a left enough fname (length (qual_entries q c)) (longer q) false)))))
@@ -342,7 +342,7 @@ module _ {U : Type 0} (Is : Told U) (Enough : ℕ → ℕ → Type 0) (T : Telli
     closed_write : ParamsWrite closed
     unfolding emit_params params_text put
     closed_write xs u v a left d first =
-        via (ap (λ (x : List Param). emit_params (λ id f. emit_type_decl N B left id f lvl) first x u) a.0) (names a.1 (T.whole_is u []))
+        via (ap (λ (x : List Param). emit_params (λ id f. emit_type_decl N B left id f lvl) first x u) a.0) (names a.1 (T.whole_is u [] []))
 
     dots_write : ParamsWrite dots
     unfolding emit_params emit_param params_text comma put
@@ -361,7 +361,7 @@ module _ {U : Type 0} (Is : Told U) (Enough : ℕ → ℕ → Type 0) (T : Telli
         _
         u
         v
-        (via (ap (λ (w : Writer U). w u) (passed (eqb a.0.type_id 0) (put (ascii "...")) _ a.2)) (names a.3 (T.whole_is u (ascii "..."))))))
+        (via (ap (λ (w : Writer U). w u) (passed (eqb a.0.type_id 0) (put (ascii "...")) _ a.2)) (names a.3 (T.whole_is u (ascii "...") (held_by u (ascii "...")))))))
 
     -- one parameter, and those behind it
     one_writes : (q : List Qualifier) (ws : List (List ℕ)) (l : Layers (List ℕ)) (ps : Params (List ℕ)) → LoopWrites l → ParamsWrite ps
@@ -424,14 +424,14 @@ module _ {U : Type 0} (Is : Told U) (Enough : ℕ → ℕ → Type 0) (T : Telli
 
 -- with calls enough left: the text
 abbrev exact : {U : Type 0} → Told U
-exact x v t = x ≡ said v (whole t)
+exact x v t = (m : List _) × (x ≡ said v (whole t) m)
 
 exactly : {U : Type 0} → Telling U exact (λ n left. n ≤ left)
 unfolding next after join
 exactly {U} =
     record {
-      whole_is = λ v t. refl;
-      next_is = λ x w u₁ u₂ a b e₁ e₂. ap (λ s. next s w) e₁ ∙ ap (after a) e₂;
+      whole_is = λ v t m. (m, refl);
+      next_is = λ x w u₁ u₂ a b e₁ e₂. (e₁.0 ++ e₂.0, ap (λ s. next s w) e₁.1 ∙ ap (after a e₁.0) e₂.1);
       stopped = λ n u v t h. absurd (omega arith);
       fewer = λ n left h. omega arith;
       either = λ a b left h. (omega arith, omega arith);
@@ -439,25 +439,25 @@ exactly {U} =
 
 -- with any number left: the text, or a refusal
 abbrev Unless : {U : Type 0} → Told U
-Unless (said w (whole a)) v t = (w ≡ v) × (a ≡ t)
-Unless (said w (cut a c)) v t = Unit {0}
+Unless (said w (whole a) m) v t = (w ≡ v) × (a ≡ t)
+Unless (said w (cut a c) m) v t = Unit {0}
 
 module _ {U : Type 0} where
-  behind : (a b : List ℕ) (x : Said U) (v : U) (c : List ℕ) → a ≡ c → Unless x v b → Unless (after a x) v (c ++ b)
+  behind : (a b : List ℕ) (m : List U) (x : Said U) (v : U) (c : List ℕ) → a ≡ c → Unless x v b → Unless (after a m x) v (c ++ b)
   unfolding after join
-  behind a b (said w (whole d)) v c e h = (h.0, ap₂ (λ (x y : List ℕ). x ++ y) e h.1)
-  behind a b (said w (cut d k)) v c e h = tt
+  behind a b m (said w (whole d) n) v c e h = (h.0, ap₂ (λ (x y : List ℕ). x ++ y) e h.1)
+  behind a b m (said w (cut d k) n) v c e h = tt
 
   unless_next : (x : Said U) (w : Writer U) (u₁ u₂ : U) (a b : List ℕ) → Unless x u₁ a → Unless (w u₁) u₂ b → Unless (next x w) u₂ (a ++ b)
   unfolding next
-  unless_next (said z (whole d)) w u₁ u₂ a b h k = behind d b (w z) u₂ a h.1 (rw h.0 k)
-  unless_next (said z (cut d c)) w u₁ u₂ a b h k = tt
+  unless_next (said z (whole d) m) w u₁ u₂ a b h k = behind d b m (w z) u₂ a h.1 (rw h.0 k)
+  unless_next (said z (cut d c) m) w u₁ u₂ a b h k = tt
 
   unless : Telling U Unless (λ n left. Unit {0})
   unfolding stop
   unless =
       record {
-        whole_is = λ v t. (refl, refl);
+        whole_is = λ v t m. (refl, refl);
         next_is = unless_next;
         stopped = λ n u v t h. tt;
         fewer = λ n left h. tt;
@@ -467,20 +467,20 @@ module _ {U : Type 0} where
 module _ {U : Type 0} (N : Naming U) (B : Btf) (lvl : ℕ) where
   -- The rules write the text of the chain, where they have calls enough.
   pub rules_write : (id : ℕ) (c : Chain (List ℕ)) (u v : U) → Draws N B id c u v → (left : ℕ) → 2 + deep c.layers ≤ left → (fname : Name)
-      → emit_type_decl N B left id fname lvl u ≡ said v (whole (written c fname))
+      → (m : List U) × (emit_type_decl N B left id fname lvl u ≡ said v (whole (written c fname)) m)
   rules_write id c u v d left h fname = chain_text exact (λ n left. n ≤ left) exactly N B lvl id c u v d left (omega arith) fname
 
   -- Whatever they write, with any number of calls left and without a refusal, is that text.
-  pub rules_write_only : (id : ℕ) (c : Chain (List ℕ)) (u v : U) → Draws N B id c u v → (left : ℕ) (fname : Name) (w : U) (t : List ℕ)
-      → emit_type_decl N B left id fname lvl u ≡ said w (whole t) → t ≡ written c fname
-  rules_write_only id c u v d left fname w t e = (rw e at (chain_text Unless (λ n left. Unit {0}) unless N B lvl id c u v d left tt fname)).1
+  pub rules_write_only : (id : ℕ) (c : Chain (List ℕ)) (u v : U) → Draws N B id c u v → (left : ℕ) (fname : Name) (w : U) (t : List ℕ) (m : List U)
+      → emit_type_decl N B left id fname lvl u ≡ said w (whole t) m → t ≡ written c fname
+  rules_write_only id c u v d left fname w t m e = (rw e at (chain_text Unless (λ n left. Unit {0}) unless N B lvl id c u v d left tt fname)).1
 
   -- What emit_type_decl writes of a type whose chain is covered reads back to that chain,
   pub rules_round_trip : (id : ℕ) (c : Chain (List ℕ)) (u v : U) → Draws N B id c u v → Covered c → (left : ℕ) (fname : Name) → Word fname
-      → (w : U) (t : List ℕ) → emit_type_decl N B left id fname lvl u ≡ said w (whole t) → read t ≡ chain c
-  rules_round_trip id c u v d k left fname ok w t e = ap read (rules_write_only id c u v d left fname w t e) ∙ round_trip c fname k ok
+      → (w : U) (t : List ℕ) (m : List U) → emit_type_decl N B left id fname lvl u ≡ said w (whole t) m → read t ≡ chain c
+  rules_round_trip id c u v d k left fname ok w t m e = ap read (rules_write_only id c u v d left fname w t m e) ∙ round_trip c fname k ok
 
   -- and the entries that the code leaves for it decode to that chain.
   pub rules_read_back : (id : ℕ) (c : Chain (List ℕ)) (u v : U) → Draws N B id c u v → Covered c → (left : ℕ) (fname : Name) → Word fname
-      → (w : U) (t : List ℕ) → emit_type_decl N B left id fname lvl u ≡ said w (whole t) → (ws : List ℕ) → 1536 ≤ length ws → decoded t (read_into t ws) ≡ chain c
-  rules_read_back id c u v d k left fname ok w t e ws l = decodes t ws l ∙ rules_round_trip id c u v d k left fname ok w t e
+      → (w : U) (t : List ℕ) (m : List U) → emit_type_decl N B left id fname lvl u ≡ said w (whole t) m → (ws : List ℕ) → 1536 ≤ length ws → decoded t (read_into t ws) ≡ chain c
+  rules_read_back id c u v d k left fname ok w t m e ws l = decodes t ws l ∙ rules_round_trip id c u v d k left fname ok w t m e

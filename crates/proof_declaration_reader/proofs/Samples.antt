@@ -4,7 +4,7 @@ use mathlib.Core.List.{[], ◌∷◌}
 use Rattle.spec_bytes.specs.text.Text.{ascii}
 use Rattle.spec_c_dumper.specs.rules.Types.{is_empty}
 use Rattle.spec_c_dumper.specs.rules.Names.{same_bytes, naming}
-use Rattle.spec_c_dumper.specs.rules.Writer.{put}
+use Rattle.spec_c_dumper.specs.rules.Writer.{held_by, put}
 use Rattle.spec_c_dumper.specs.rules.Samples.{declarators, unnamed}
 use Rattle.spec_c_dumper.specs.rules.Decl.{qualifier, star, array as count, chain_of, chain_on, base_word}
 use Rattle.proof_declaration_reader.specs.Written.{spaced, words_behind}
@@ -32,7 +32,7 @@ drawn_array =
       behind = star ∷ count 3 ∷ [];
       between = unnamed;
       chains = refl;
-      prints = λ decl chain def fname lvl. refl;
+      prints = λ decl chain def fname lvl. (held_by unnamed (ascii "int"), refl);
       layers_are = (count 3 ∷ [], refl, ([], refl, (refl, refl)));
     }
 
@@ -44,6 +44,6 @@ drawn_pointer =
       behind = count 3 ∷ star ∷ [];
       between = unnamed;
       chains = refl;
-      prints = λ decl chain def fname lvl. refl;
+      prints = λ decl chain def fname lvl. (held_by unnamed (ascii "int"), refl);
       layers_are = (star ∷ [], refl, ([], refl, (refl, refl)));
     }

@@ -16,12 +16,12 @@ qual_entries [] c = c
 qual_entries (q ∷ qs) c = qual q ∷ qual_entries qs c
 
 module _ {U : Type 0} (N : Naming U) (B : Btf) where
-  -- a base prints these words, whatever stands around it
+  -- a base prints these words, whatever stands around it; m: the names held at each byte of them
   abbrev pub Prints : ℕ → List (List ℕ) → U → U → Type 0
   Prints b ws u v =
       (decl : ℕ → Name → ℕ → Writer U) (chain : List Entry → Name → ℕ → Writer U) (def : ℕ → Bool → Name → ℕ → List Member → ℕ → Writer U)
       (fname : Name) (lvl : ℕ)
-      → base_word N B decl chain def fname lvl b (B.type_by_id b) u ≡ said v (whole (spaced ws))
+      → (m : List U) × (base_word N B decl chain def fname lvl b (B.type_by_id b) u ≡ said v (whole (spaced ws)) m)
 
   abbrev mutual
     -- entries behind the base; the names are u before and v after

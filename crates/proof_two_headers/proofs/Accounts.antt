@@ -16,7 +16,7 @@ use Rattle.spec_c_dumper.specs.rules.Machine.{Req}
 use Rattle.spec_c_dumper.specs.rules.Names.{Space, Holder, holds, holders, with_one}
 use Rattle.spec_c_dumper.proofs.rules.Names.{count_here, more_of}
 use Rattle.proof_two_headers.specs.Shared.{Account, Ledger, no_account, account, known, made, taking, passing, number_of}
-use Rattle.proof_two_headers.specs.Calls.{capacity, reserved, ledger_short, open_number, joined, begun, Part, Side, kernel, module', Call, opens, asks, World, part_of, with_part, lent, answered, opening, asking, called, calls, new_world}
+use Rattle.proof_two_headers.specs.Calls.{Lengths, capacity, reserved, ledger_short, is_current, open_number, joined, begun, Part, Side, kernel, module', Call, opens, asks, World, part_of, with_part, lent, answered, opening, asking, called, calls, new_world}
 use Rattle.proof_two_headers.specs.Accounts.{used_all, AllHeld, Sound, Reached, here, takes, opened, Claim}
 use Rattle.proof_two_headers.proofs.Keeps.{ledger_keeps}
 
@@ -119,8 +119,8 @@ reserved_joined (x ∷ l) a = omega (arith, reserved_joined l a)
 -- ---- the ledger stays sound
 
 -- room for the entries is what the other fields say
-sound_of : (L : Ledger) → ((k : ℕ) → (account L k).used ≤ (account L k).reserve) → used_all L.accounts ≡ length L.entries → reserved L.accounts ≤ capacity L → length L.accounts ≤ 2 → AllHeld L.entries → Sound L
-sound_of L w o r t h = record { within = w; charged_once = o; reserves_fit = r; entries_fit = fit (capacity L) (used_fit L.accounts w) o r; two_at_most = t; all_held = h }
+sound_of : (L : Ledger) → ((k : ℕ) → (account L k).used ≤ (account L k).reserve) → used_all L.accounts ≡ length L.entries → reserved L.accounts ≤ capacity L.words → length L.accounts ≤ 2 → AllHeld L.entries → Sound L
+sound_of L w o r t h = record { within = w; charged_once = o; reserves_fit = r; entries_fit = fit (capacity L.words) (used_fit L.accounts w) o r; two_at_most = t; all_held = h }
   where
     fit : (c : ℕ) → used_all L.accounts ≤ reserved L.accounts → used_all L.accounts ≡ length L.entries → reserved L.accounts ≤ c → length L.entries ≤ c
     fit c a b d = omega (arith, a, b, d)
@@ -133,7 +133,7 @@ module _ (k : ℕ) (space : Space) (name : Name) (L : Ledger) (h : Sound L) wher
   made_sound e l = sound_of (made k L space name)
       (within_set L.accounts k more (omega (arith, l)) h.within)
       (used_set L.accounts k more refl (in_range L.accounts k (omega (arith, l))) ∙ ap (λ (n : ℕ). n + 1) h.charged_once ∙ sym (new_length space name L.entries h.all_held e))
-      (subst (λ (n : ℕ). n ≤ capacity L) (sym (reserved_set L.accounts k more refl)) h.reserves_fit)
+      (subst (λ (n : ℕ). n ≤ capacity L.words) (sym (reserved_set L.accounts k more refl)) h.reserves_fit)
       (subst (λ (n : ℕ). n ≤ 2) (sym (length-set L.accounts k more)) h.two_at_most)
       (held_more space name L.entries h.all_held)
 
@@ -149,16 +149,16 @@ module _ (k : ℕ) (space : Space) (name : Name) (L : Ledger) (h : Sound L) wher
       go true e q = made_sound (eqb-true (holders L.entries space name) 0 e) (leb-false (account L k).reserve (account L k).used q)
       go false e q = known_sound (eqb-false (holders L.entries space name) 0 e)
 
-joined_sound : (L : Ledger) (reserve : ℕ) → ledger_short L reserve ≡ false → Sound L → Sound (joined L reserve)
+joined_sound : (L : Ledger) (words reserve : ℕ) → ledger_short L words reserve ≡ false → Sound L → Sound (joined L words reserve)
 unfolding ledger_short
-joined_sound L reserve e h =
+joined_sound L words reserve e h =
     let a : Account = record { reserve = reserve; used = 0 } in
-    let q = (or_parts (ltb L.words 16) (leb 2 (length L.accounts) || ltb (capacity L) (reserved L.accounts + reserve)) e).1 in
-    let q₂ = or_parts (leb 2 (length L.accounts)) (ltb (capacity L) (reserved L.accounts + reserve)) q in
-    sound_of (joined L reserve)
+    let q = (or_parts (ltb words 16) (leb 2 (length L.accounts) || ltb (capacity words) (reserved L.accounts + reserve)) e).1 in
+    let q₂ = or_parts (leb 2 (length L.accounts)) (ltb (capacity words) (reserved L.accounts + reserve)) q in
+    sound_of (joined L words reserve)
     (get_d_joined L.accounts a zero-le h.within)
     (used_joined L.accounts a ∙ add_zero (used_all L.accounts) ∙ h.charged_once)
-    (subst (λ (n : ℕ). n ≤ capacity L) (sym (reserved_joined L.accounts a)) (ltb-false (capacity L) (reserved L.accounts + reserve) q₂.1))
+    (subst (λ (n : ℕ). n ≤ capacity words) (sym (reserved_joined L.accounts a)) (ltb-false (capacity words) (reserved L.accounts + reserve) q₂.1))
     (subst (λ (n : ℕ). n ≤ 2) (sym (length-append L.accounts (a ∷ []))) (fewer (length L.accounts) (leb-false 2 (length L.accounts) q₂.0)))
     h.all_held
   where
@@ -175,44 +175,44 @@ ledger_own W kernel L p = refl
 ledger_own W module' L p = refl
 
 -- an opening that is accepted found the ledger long enough
-opens_long : (other : ℕ) (L : Ledger) (reserve : ℕ) → open_number other L reserve ≡ 0 → ledger_short L reserve ≡ false
+opens_long : (other : ℕ) (L : Ledger) (words reserve : ℕ) → open_number other L words reserve ≡ 0 → ledger_short L words reserve ≡ false
 unfolding open_number
-opens_long zero L reserve = λ e. go (ledger_short L reserve) e
+opens_long zero L words reserve = λ e. go (ledger_short L words reserve) e
   where
     go : (b : Bool) → ◌≡◌ {A = ℕ} (elim b as (λ x. ℕ) [ true ↦ 9 | false ↦ 0 ]) 0 → b ≡ false
     go true e = absurd (omega (arith, e))
     go false e = refl
-opens_long (suc n) L reserve = λ e. absurd (omega (arith, e))
+opens_long (suc n) L words reserve = λ e. absurd (omega (arith, e))
 
 -- what every name taken and every opening keeps, all calls keep
 module _ (B : Side → Btf) (I : Ledger → Type 0) (step : (k : ℕ) (space : Space) (name : Name) (L : Ledger) → passing k L space name ≡ false → I L → I (taking k L space name))
-    (joins : (L : Ledger) (reserve : ℕ) → ledger_short L reserve ≡ false → I L → I (joined L reserve)) where
-  opening_keeps : (W : World) (d : Side) (reserve : ℕ) → I W.ledger → (n : ℕ) → (n ≡ 0 → ledger_short W.ledger reserve ≡ false) → I (opening B W d reserve n).world.ledger
+    (joins : (L : Ledger) (words reserve : ℕ) → ledger_short L words reserve ≡ false → I L → I (joined L words reserve)) where
+  opening_keeps : (W : World) (d : Side) (l : Lengths) (reserve : ℕ) → I W.ledger → (n : ℕ) → (n ≡ 0 → ledger_short W.ledger l.ledger reserve ≡ false) → I (opening B W d l reserve n).world.ledger
   unfolding opening
-  opening_keeps W d reserve i zero e = subst I (ledger_own W d (joined W.ledger reserve) (begun (B d) W.ledger reserve)) (joins W.ledger reserve (e refl) i)
-  opening_keeps W d reserve i (suc n) e = i
+  opening_keeps W d l reserve i zero e = subst I (ledger_own W d (joined W.ledger l.ledger reserve) (begun (B d) W.ledger l reserve)) (joins W.ledger l.ledger reserve (e refl) i)
+  opening_keeps W d l reserve i (suc n) e = i
 
   asking_keeps : (W : World) (d : Side) (r : Req) → I W.ledger → (b : Bool) → I (asking B W d r b).world.ledger
   unfolding asking
   asking_keeps W d r i false = i
   asking_keeps W d r i true =
       let a = answered (B d) (part_of W d) W.ledger r in
-      subst I (ledger_own W d a.sess.mach.known.names.ledger (record { number = (part_of W d).number; words = (part_of W d).words; sess = a.sess }))
+      subst I (ledger_own W d a.sess.mach.known.names.ledger (record { number = (part_of W d).number; lengths = (part_of W d).lengths; sess = a.sess }))
       (ledger_keeps I (part_of W d).number (step (part_of W d).number) (B d) (lent W.ledger (part_of W d).sess) r i)
 
   call_keeps : (W : World) (c : Call) → I W.ledger → I (called B W c).world.ledger
   unfolding called
-  call_keeps W (opens d other reserve) i = opening_keeps W d reserve i (open_number other W.ledger reserve) (opens_long other W.ledger reserve)
-  call_keeps W (asks d words r) i = asking_keeps W d r i (eqb words (part_of W d).words)
+  call_keeps W (opens d other l reserve) i = opening_keeps W d l reserve i (open_number other W.ledger l.ledger reserve) (opens_long other W.ledger l.ledger reserve)
+  call_keeps W (asks d l r) i = asking_keeps W d r i (is_current (part_of W d) l r)
 
   calls_keep : (cs : List Call) (W : World) → I W.ledger → I (calls B W cs).ledger
   unfolding calls
   calls_keep [] W i = i
   calls_keep (c ∷ cs) W i = calls_keep cs (called B W c).world (call_keeps W c i)
 
-new_sound : (words : ℕ) → Sound (new_world words).ledger
+new_sound : Sound new_world.ledger
 unfolding used_all reserved
-new_sound words = sound_of (new_world words).ledger (λ k. zero-le) refl zero-le zero-le tt
+new_sound = sound_of new_world.ledger (λ k. zero-le) refl zero-le zero-le tt
 
 -- ---- numbers
 
@@ -232,7 +232,7 @@ reached_grows L _ space name (takes k space' name' M r) =
   where
     then_le : {a b c : ℕ} → a ≤ b → b ≤ c → a ≤ c
     then_le p q = omega (arith, p, q)
-reached_grows L _ space name (opened reserve M r) = reached_grows L M space name r
+reached_grows L _ space name (opened words reserve M r) = reached_grows L M space name r
 
 differ : (k : ℕ) (L M : Ledger) (space : Space) (name : Name) → Reached (taking k L space name) M → holders M.entries space name < 4294967295 → number_of L space name ≡ number_of M space name → ⊥
 differ k L M space name r l e =
@@ -244,7 +244,7 @@ differ k L M space name r l e =
 -- THE CLAIM
 pub accounts : Claim
 accounts B = record {
-  sound = λ words cs. calls_keep B Sound (λ k space name L q h. taking_sound k space name L h q) (λ L reserve e h. joined_sound L reserve e h) cs (new_world words) (new_sound words);
-  reached = λ W cs. calls_keep B (Reached W.ledger) (λ k space name L q h. takes k space name L h) (λ L reserve e h. opened reserve L h) cs W here;
+  sound = λ cs. calls_keep B Sound (λ k space name L q h. taking_sound k space name L h q) (λ L words reserve e h. joined_sound L words reserve e h) cs new_world new_sound;
+  reached = λ W cs. calls_keep B (Reached W.ledger) (λ k space name L q h. takes k space name L h) (λ L words reserve e h. opened words reserve L h) cs W here;
   numbers_differ = differ;
 }

@@ -14,12 +14,10 @@ use Rattle.spec_c_dumper.specs.rules.Decl.{deeper, sep_name, keyword, attribute,
 use Rattle.spec_c_dumper.specs.rules.Emit.{definition, shown, forward}
 use Rattle.spec_c_dumper.specs.rules.Listed.{tags_id, tags_from}
 use Rattle.spec_c_dumper.specs.needs.Lists.{tags_of, afresh}
-use Rattle.spec_c_dumper.specs.needs.Session.{fitting, line_of, text_of, answer_to, dumped, printed, program}
+use Rattle.spec_c_dumper.specs.needs.Session.{names_at_stop, fitting, line_of, text_of, answer_to, dumped, printed, program}
 use Rattle.spec_c_dumper.specs.rules.Samples.{all_given, all_wanted}
-use Rattle.proof_two_headers.specs.Steps.{◌⨟◌, told, print, refuse, asking as asking_for, type_name, value_name, composite_fwd_steps, fwd_def_steps, enum_word_steps, values_steps, enum_body_steps, enum_def_steps, name_steps, parens_steps, param_steps, params_steps, base_word_steps, array_steps, proto_steps, param_list_steps, chain_loop_steps, members_steps, composite_head_steps, composite_end_steps, composite_body_steps, composite_def_steps, type_decl_steps, type_chain_steps, whole_composite_steps, typedef_def_steps, definition_steps, shown_steps, forward_steps}
-use Rattle.proof_two_headers.specs.Shared.{taking, passing, type_shared, value_shared, type_passes, unless, on_top, from20, play, play_line, played_on, line_on}
-use Rattle.proof_two_headers.specs.Requests.{ebind, each_on, once_on, mention_on, again_on, close_on, leaf_end, within_on, begin_on, allowed_on, look_on, emit_on, shut_on, emitted_on, ordered_on, gate_on, single_on, onward_on, from_on, every_on, answer_on}
-use Rattle.proof_two_headers.specs.Calls.{reserved, ledger_short, open_number, opening, asking, called, calls}
+use Rattle.proof_two_headers.specs.Shared.{taking, passing, type_shared, value_shared}
+use Rattle.proof_two_headers.specs.Calls.{reserved, ledger_short, open_number, is_ready, same_lengths, is_current, opening, asking, called, calls}
 use Rattle.proof_two_headers.specs.Samples.{numbers_from, shared_samples}
 
 pub samples_shared : all_given shared_samples ≡ all_wanted shared_samples
@@ -30,10 +28,6 @@ unfolding one_more join bytes pfx digits decimal bind each meet push_if enter al
     contains builtin escaped_byte escaped deeper sep_name keyword attribute decl_tag decl_tags qualifier enum_value enum64_value chain_on chain_of mods
     no_mods shown_params unit_word pads last_newline own_line tail_text body_packed tail_pads bit_size_of emit_composite_fwd emit_fwd_def enum_word emit_values enum_body emit_enum_def emit_name brackets
     parens emit_param emit_params base_word emit_array emit_proto param_list chain_loop emit_members composite_head composite_end composite_body
-    composite_def emit_typedef_def emit_type_decl emit_type_chain emit_composite_def definition shown forward tags_id tags_from tags_of afresh fitting line_of
-    text_of answer_to dumped printed program ◌⨟◌ told print refuse asking_for type_name value_name composite_fwd_steps fwd_def_steps enum_word_steps values_steps enum_body_steps enum_def_steps name_steps
-    parens_steps param_steps params_steps base_word_steps array_steps proto_steps param_list_steps chain_loop_steps members_steps composite_head_steps composite_end_steps composite_body_steps
-    composite_def_steps type_decl_steps type_chain_steps whole_composite_steps typedef_def_steps definition_steps shown_steps forward_steps taking passing type_shared value_shared type_passes unless on_top
-    from20 play play_line played_on line_on ebind each_on once_on mention_on again_on close_on leaf_end within_on begin_on allowed_on look_on emit_on shut_on emitted_on ordered_on gate_on single_on onward_on
-    from_on every_on answer_on reserved ledger_short open_number opening asking called calls numbers_from
+    composite_def emit_typedef_def emit_type_decl emit_type_chain emit_composite_def definition shown forward tags_id tags_from tags_of afresh names_at_stop fitting line_of
+    text_of answer_to dumped printed program taking passing type_shared value_shared reserved ledger_short open_number is_ready same_lengths is_current opening asking called calls numbers_from
 samples_shared = refl

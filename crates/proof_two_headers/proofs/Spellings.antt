@@ -16,14 +16,14 @@ use Rattle.spec_bytes.specs.text.Decimal.{decimal}
 use Rattle.spec_bytes.proofs.text.Digits.{horner, decimal_is}
 use Rattle.spec_c_dumper.specs.rules.Machine.{Req}
 use Rattle.spec_c_dumper.specs.rules.Types.{Name, Btf, name_of}
-use Rattle.spec_c_dumper.specs.rules.Names.{Space, ident_space, Resolved, Holder, spelled, holders, with_one}
+use Rattle.spec_c_dumper.specs.rules.Names.{Space, ident_space, Holder, spelled, holders, with_one}
 use Rattle.spec_c_dumper.specs.needs.Lists.{afresh}
 use Rattle.spec_c_dumper.proofs.rules.Names.{spelled_later, spelled_low, count_here}
-use Rattle.proof_two_headers.specs.Shared.{Ledger, Who, of_type, of_value, Given, Held, over, giving, number_of, taking, passing, type_shared, value_shared, type_passes}
-use Rattle.proof_two_headers.specs.Calls.{Side, kernel, module', Call, opens, asks, World, part_of, lent, open_number, opening, asking, called, calls, new_world}
+use Rattle.proof_two_headers.specs.Shared.{Ledger, Who, of_type, of_value, Given, Held, over, giving, number_of, taking, type_shared, value_shared}
+use Rattle.proof_two_headers.specs.Calls.{Lengths, is_current, Side, kernel, module', Call, opens, asks, World, part_of, lent, open_number, opening, asking, called, calls, new_world}
 use Rattle.proof_two_headers.specs.Spellings.{given_in, spelling, SameName, Otherwise, AllOtherwise, Got, FewHolders, space_of, version_in, Unlike, Claim}
-use Rattle.proof_two_headers.proofs.Asks.{Own, table_own}
-use Rattle.proof_two_headers.proofs.Keeps.{answer_keeps}
+use Rattle.proof_two_headers.proofs.Own.{Own, table_own}
+use Rattle.proof_two_headers.proofs.Keeps.{type_by, answer_keeps}
 use Rattle.proof_two_headers.proofs.Accounts.{grows, taking_entries}
 
 -- ---- spellings tell numbers apart
@@ -173,18 +173,15 @@ module _ (C D : Btf) (ws : List ℕ) (m : List Given) where
           })
           (set_one h.versions id (number_of h.ledger space name) j)
 
-  type_kept : (k : ℕ) (space : Space) (id : ℕ) (name : Name) (h : Held) → Own C space id name → Beside h → type_passes k space id name h ≡ false → Beside (type_shared k space id name h).names
+  type_kept : (k : ℕ) (space : Space) (id : ℕ) (name : Name) (h : Held) → Own C space id name → Beside h → (type_shared k space id name h).passes ≡ false → Beside (type_shared k space id name h).names
   unfolding type_shared
   type_kept k space id name h f p e = go (eqb (get_or h.versions id 0) 0)
     where
-      go : (b : Bool) → Beside (elim b as (λ x. Resolved Held) [
-        | false ↦ record { version = get_or h.versions id 0; names = h }
-        | true ↦ record { version = number_of h.ledger space name; names = record { versions = set h.versions id (number_of h.ledger space name); given = giving space (of_type id) name h; ledger = taking k h.ledger space name } }
-      ]).names
+      go : (b : Bool) → Beside (type_by k space id name h b).names
       go true = type_new k space id name h f p
       go false = p
 
-  value_kept : (k id i : ℕ) (name : Name) (h : Held) → Beside h → passing k h.ledger ident_space name ≡ false → Beside (value_shared k id i name h).names
+  value_kept : (k id i : ℕ) (name : Name) (h : Held) → Beside h → (value_shared k id i name h).passes ≡ false → Beside (value_shared k id i name h).names
   unfolding value_shared
   value_kept k id i name h p e =
       on_entries k h.ledger ident_space name _ _ (gave C D h.versions h.given ws m h.ledger.entries p ident_space name (of_value id i) h.versions
@@ -219,12 +216,12 @@ afresh_beside C D n vs l ws m E p = record {
 }
 
 module _ (B : Side → Btf) where
-  opening_good : (W : World) (d : Side) (reserve n : ℕ) → Good B W → Good B (opening B W d reserve n).world
+  opening_good : (W : World) (d : Side) (l : Lengths) (reserve n : ℕ) → Good B W → Good B (opening B W d l reserve n).world
   unfolding opening afresh
-  opening_good W d reserve (suc n) g = g
-  opening_good W kernel reserve zero g = afresh_beside (B kernel) (B module') (B kernel).type_cnt _ _ (names_in W module').versions (names_in W module').given W.ledger.entries g
-  opening_good W module' reserve zero g =
-      turn_back B (opening B W module' reserve zero).world (afresh_beside (B module') (B kernel) (B module').type_cnt _ _ (names_in W kernel).versions (names_in W kernel).given W.ledger.entries (turn B W g))
+  opening_good W d l reserve (suc n) g = g
+  opening_good W kernel l reserve zero g = afresh_beside (B kernel) (B module') (B kernel).type_cnt _ _ (names_in W module').versions (names_in W module').given W.ledger.entries g
+  opening_good W module' l reserve zero g =
+      turn_back B (opening B W module' l reserve zero).world (afresh_beside (B module') (B kernel) (B module').type_cnt _ _ (names_in W kernel).versions (names_in W kernel).given W.ledger.entries (turn B W g))
 
   asking_good : (W : World) (d : Side) (r : Req) (b : Bool) → Good B W → Good B (asking B W d r b).world
   unfolding asking
@@ -243,17 +240,17 @@ module _ (B : Side → Btf) where
 
   called_good : (W : World) (c : Call) → Good B W → Good B (called B W c).world
   unfolding called
-  called_good W (opens d other reserve) g = opening_good W d reserve (open_number other W.ledger reserve) g
-  called_good W (asks d words r) g = asking_good W d r (eqb words (part_of W d).words) g
+  called_good W (opens d other l reserve) g = opening_good W d l reserve (open_number other W.ledger l.ledger reserve) g
+  called_good W (asks d l r) g = asking_good W d r (is_current (part_of W d) l r) g
 
   calls_good : (cs : List Call) (W : World) → Good B W → Good B (calls B W cs)
   unfolding calls
   calls_good [] W g = g
   calls_good (c ∷ cs) W g = calls_good cs (called B W c).world (called_good W c g)
 
-new_good : (B : Side → Btf) (words : ℕ) → Good B (new_world words)
+new_good : (B : Side → Btf) → Good B new_world
 unfolding afresh
-new_good B words = record {
+new_good B = record {
   own₁ = tt;
   own₂ = tt;
   types₁ = λ id h. absurd (h refl);
@@ -330,4 +327,4 @@ module _ (B : Side → Btf) (W : World) (few : FewHolders W.ledger) (g : Good B 
 
 -- THE CLAIM
 pub spellings : Claim
-spellings B words cs few = unlike B (calls B (new_world words) cs) few (calls_good B cs (new_world words) (new_good B words))
+spellings B cs few = unlike B (calls B new_world cs) few (calls_good B cs new_world (new_good B))

@@ -19,9 +19,9 @@ pub record Sound (L : Ledger) : Type 0 where
   pub within : (k : ℕ) → (account L k).used ≤ (account L k).reserve
   -- every entry is charged once, to one session
   pub charged_once : used_all L.accounts ≡ length L.entries
-  -- what is reserved, and so what is used, has room: "16 words and eight an entry"
-  pub reserves_fit : reserved L.accounts ≤ capacity L
-  pub entries_fit : length L.entries ≤ capacity L
+  -- what is reserved, and so what is used, has room in the ledger as the last opening was lent it: "16 words and eight an entry"
+  pub reserves_fit : reserved L.accounts ≤ capacity L.words
+  pub entries_fit : length L.entries ≤ capacity L.words
   pub two_at_most : length L.accounts ≤ 2
   pub all_held : AllHeld L.entries
 
@@ -29,11 +29,11 @@ pub record Sound (L : Ledger) : Type 0 where
 pub data Reached (L : Ledger) : Ledger → Type 0 where
   here : Reached L L
   takes : (k : ℕ) (space : Space) (name : Name) (M : Ledger) → Reached L M → Reached L (taking k M space name)
-  opened : (reserve : ℕ) (M : Ledger) → Reached L M → Reached L (joined M reserve)
+  opened : (words reserve : ℕ) (M : Ledger) → Reached L M → Reached L (joined M words reserve)
 
--- THE CLAIM, of every two tables, every ledger's length, and every list of calls
+-- THE CLAIM, of every two tables and every list of calls, whatever lengths they lend
 pub record Accounts (B : Side → Btf) : Type 0 where
-  pub sound : (words : ℕ) (cs : List Call) → Sound (calls B (new_world words) cs).ledger
+  pub sound : (cs : List Call) → Sound (calls B new_world cs).ledger
   pub reached : (W : World) (cs : List Call) → Reached W.ledger (calls B W cs).ledger
   -- two holders of one name, whichever session each is of, have two numbers: the second takes its name from a ledger that came of the
   -- first's. No text of 2^30 bytes prints so many that the largest number is met.

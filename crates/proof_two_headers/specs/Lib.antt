@@ -1,9 +1,9 @@
-pub mod Steps
 pub mod Lines
 pub mod Shared
-pub mod Requests
 pub mod Calls
 pub mod Samples
 pub mod Claims
 pub mod Accounts
 pub mod Spellings
+pub mod Demands
+pub mod Reserves

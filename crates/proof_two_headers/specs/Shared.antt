@@ -1,13 +1,11 @@
--- "Two sessions may now share one ledger, each with a reserved number of entries given at opening." The ledger, names over it, lines, and
--- refusals that leave the names taken.
-use Rattle.std.specs.Prelude.{ℕ, ◌+◌, Bool, true, false, List, [], ◌∷◌, ◌++◌, length, get_or, set, leb, eqb}
+-- "Two sessions may now share one ledger, each with a reserved number of entries given at opening." The ledger, and the names of a session
+-- over it.
+use Rattle.std.specs.Prelude.{ℕ, ◌+◌, Bool, true, false, List, [], ◌∷◌, get_or, set, leb, eqb}
 use Rattle.spec_bytes.specs.words.Words.{one_more}
 use Rattle.spec_c_dumper.specs.rules.Types.{Name}
-use Rattle.spec_c_dumper.specs.rules.Layout.{smaller}
 use Rattle.spec_c_dumper.specs.rules.Names.{Space, ident_space, Resolved, Naming, Holder, holders, with_one}
-use Rattle.spec_c_dumper.specs.needs.Lists.{Piece, Ls}
+use Rattle.spec_c_dumper.specs.needs.Lists.{Ls}
 use Rattle.spec_c_dumper.specs.needs.Session.{Known}
-use Rattle.proof_two_headers.specs.Steps.{Steps, end, prints, refuses, takes_type, takes_value}
 
 -- ---- the ledger
 
@@ -17,15 +15,15 @@ pub record Account : Type 0 where
   pub used : ℕ
 
 -- "an entry is one name of a space, charged to the session that made it": entries has every name of either session, and how many hold it in
--- both; accounts has the sessions that share it, open or closed, in the order of their opening
+-- both; accounts has the sessions that share it, open or closed, in the order of their opening; words: its length when the last was opened
 pub record Ledger : Type 0 where
   pub words : ℕ
   pub entries : List Holder
   pub accounts : List Account
 
 -- "zero when new"
-abbrev pub new_ledger : ℕ → Ledger
-new_ledger words = record { words = words; entries = []; accounts = [] }
+abbrev pub new_ledger : Ledger
+new_ledger = record { words = 0; entries = []; accounts = [] }
 
 abbrev pub no_account : Account
 no_account = record { reserve = 0; used = 0 }
@@ -38,11 +36,6 @@ abbrev pub charged : List Account → ℕ → List Account
 charged l k = set l k (record { reserve = (get_or l k no_account).reserve; used = (get_or l k no_account).used + 1 })
 
 -- ---- names
-
--- what asking for a name comes to: a number and what is left; or 20
-pub data Taken (A : Type 0) : Type 0 where
-  gave : ℕ → A → Taken A
-  passes : Taken A
 
 -- one more holder of a name that has an entry; "a type printed by both is two holders"
 abbrev pub known : Ledger → Space → Name → Ledger
@@ -92,12 +85,13 @@ number_of L space name = one_more (holders L.entries space name)
 abbrev pub giving : Space → Who → Name → Held → List Given
 giving space who name h = record { space = space; who = who; name = name; number = number_of h.ledger space name } ∷ h.given
 
--- the naming, as if no reserve were passed: a type that has a version in this session keeps it
+-- a type that has a version in this session keeps it, and asks for no name
 unfoldable pub type_shared : ℕ → Space → ℕ → Name → Held → Resolved Held
 type_shared k space id name h =
     elim (eqb (get_or h.versions id 0) 0) [
-      | false ↦ record { version = get_or h.versions id 0; names = h }
+      | false ↦ record { passes = false; version = get_or h.versions id 0; names = h }
       | true ↦ record {
+        passes = passing k h.ledger space name;
         version = number_of h.ledger space name;
         names = record {
           versions = set h.versions id (number_of h.ledger space name);
@@ -109,86 +103,15 @@ type_shared k space id name h =
 
 unfoldable pub value_shared : ℕ → ℕ → ℕ → Name → Held → Resolved Held
 value_shared k id i name h = record {
+  passes = passing k h.ledger ident_space name;
   version = number_of h.ledger ident_space name;
   names = record { versions = h.versions; given = giving ident_space (of_value id i) name h; ledger = taking k h.ledger ident_space name };
 }
 
+-- the names of session k; "Closing leaves the ledger, with the names a refused request took"
 abbrev pub sharing : ℕ → Naming Held
-sharing k = record { type_version = type_shared k; value_version = value_shared k }
+sharing k = record { type_version = type_shared k; value_version = value_shared k; leaving = λ held h. over held.ledger h }
 
--- whether the name of type id would be a new entry past the reserve: a type that has a version asks for none
-unfoldable pub type_passes : ℕ → Space → ℕ → Name → Held → Bool
-type_passes k space id name h = elim (eqb (get_or h.versions id 0) 0) [ true ↦ passing k h.ledger space name | false ↦ false ]
-
--- a name that is refused takes nothing
-unfoldable pub unless : Bool → Resolved Held → Taken Held
-unless true r = passes
-unless false r = gave r.version r.names
-
--- ---- a line, step by step
-
--- the bytes of a line and what is held after it; or a refusal, and what was held by then
-pub data Played : Type 0 where
-  played : Held → List ℕ → Played
-  broken : Held → ℕ → Played
-
-unfoldable pub on_top : List ℕ → Played → Played
-on_top a (played h b) = played h (a ++ b)
-on_top a (broken h c) = broken h c
-
-unfoldable pub from20 : Held → Taken Held → (ℕ → Held → Played) → Played
-from20 h (gave v h') f = f v h'
-from20 h passes f = broken h 20
-
--- limit: the bytes that the text may have; len: those it has. 17 at the first print that does not fit, 20 at the first name, whichever
--- comes first.
-unfoldable pub play : ℕ → ℕ → ℕ → Steps → Held → Played
-play k limit len end h = played h []
-play k limit len (prints a p) h =
-    elim (leb (len + length a) limit) [ true ↦ on_top a (play k limit (len + length a) p h) | false ↦ broken h 17 ]
-play k limit len (refuses c) h = broken h c
-play k limit len (takes_type space id name f) h =
-    from20 h (unless (type_passes k space id name h) (type_shared k space id name h)) (λ v h'. play k limit len (f v) h')
-play k limit len (takes_value id i name f) h =
-    from20 h (unless (passing k h.ledger ident_space name) (value_shared k id i name h)) (λ v h'. play k limit len (f v) h')
-
--- a slice that is shorter than the text is 11 of the calls; the rules have 17 there
-unfoldable pub play_line : ℕ → ℕ → ℕ → Steps → Held → Played
-play_line k room len p h =
-    elim (leb len (smaller room 1073741824)) [ true ↦ play k (smaller room 1073741824) len p h | false ↦ broken h 17 ]
-
--- ---- lines of the machine of lists, whose refusals keep what was held
-
-pub data End (M : Type 0) : Type 0 where
-  went : M → End M
-  halted : M → ℕ → End M
-
+-- a session's machine: that of the rules, with these names
 abbrev pub Shelf : Type 0
 Shelf = Ls (Known Held)
-
--- s, with other names
-abbrev pub holding : Held → Shelf → Shelf
-holding h s = record {
-  marks = s.marks;
-  olist = s.olist;
-  emits = s.emits;
-  fwds = s.fwds;
-  room = s.room;
-  known = record { names = h; text_len = s.known.text_len };
-  pieces = s.pieces;
-}
-
-unfoldable pub played_on : (List ℕ → Piece) → Shelf → Played → End Shelf
-played_on mk s (played h a) = went (record {
-  marks = s.marks;
-  olist = s.olist;
-  emits = s.emits;
-  fwds = s.fwds;
-  room = s.room;
-  known = record { names = h; text_len = s.known.text_len + length a };
-  pieces = s.pieces ++ (mk a ∷ []);
-})
-played_on mk s (broken h c) = halted (holding h s) c
-
-unfoldable pub line_on : ℕ → (List ℕ → Piece) → Shelf → Steps → End Shelf
-line_on k mk s p = played_on mk s (play_line k s.room s.known.text_len p s.known.names)

@@ -78,8 +78,7 @@ pub record Unlike (B : Side → Btf) (W : World) : Type 0 where
       → space_of ((B d).type_by_id i) ≡ space_of ((B e).type_by_id j) → name_of ((B d).type_by_id i) ≡ name_of ((B e).type_by_id j)
       → spelled (name_of ((B d).type_by_id i)) (version_in W d i) ≡ spelled (name_of ((B e).type_by_id j)) (version_in W e j) → ⊥
 
--- THE CLAIM, of every two tables, every ledger's length, and every list of calls
+-- THE CLAIM, of every two tables and every list of calls, whatever lengths they lend
 abbrev pub Claim : Type 0
 Claim =
-    (B : Side → Btf) (words : ℕ) (cs : List Call) → FewHolders (calls B (new_world words) cs).ledger
-    → Unlike B (calls B (new_world words) cs)
+    (B : Side → Btf) (cs : List Call) → FewHolders (calls B new_world cs).ledger → Unlike B (calls B new_world cs)

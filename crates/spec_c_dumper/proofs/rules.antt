@@ -9,6 +9,8 @@ pub mod Chains
 pub mod Deeper
 pub mod Placed
 pub mod Refusals
+pub mod Held
+pub mod Untold
 pub mod Arrays
 pub mod Maps
 pub mod Asking

@@ -20,7 +20,7 @@ use Rattle.spec_c_dumper.proofs.needs.Splits.{nil_not, snoc_split}
 use Rattle.spec_declared_first.proofs.Reach.{stops, Reach, at, on, is_leaf, Leaf, HasName, Ends, ends_once, reach_stop, reach_past, goes_on, nameless_on, named_stops}
 use Rattle.spec_declared_first.proofs.Ordering.{Due, Sorted, none, snoc}
 
-module _ {M : Type 0} (X : Machine M) (T : Table) (Good : M → Type 0) (Dec' : M → ℕ → Type 0) where
+module _ {M H : Type 0} (X : Machine M H) (T : Table) (Good : M → Type 0) (Dec' : M → ℕ → Type 0) where
   -- a piece of type x was written: it declares x
   pub record Wrote (x : ℕ) (s s' : M) : Type 0 where
     pub good : Good s'
@@ -213,7 +213,7 @@ module _ {M : Type 0} (X : Machine M) (T : Table) (Good : M → Type 0) (Dec' : 
     covered_stop : (s : M) (x cont : ℕ) → stops T x ≡ true → Dec' s x ⊎ (x ≡ cont) → Covered s x cont
     covered_stop s x cont p h w r n = subst (λ (k : ℕ). Dec' s k ⊎ (k ≡ cont)) (reach_stop T x w p r) h
 
-    once_ok : (w : M → ℕ → Out M) (x : ℕ) (P : Type 0) (b : Bool) (s : M) → Held s → x < T.count → (b ≡ true → Dec' s x ⊎ P) → Comes (Wrote x s) (w s x) → Comes (λ s'. Step s s' × (Dec' s' x ⊎ P)) (once X T w x b s)
+    once_ok : (w : M → ℕ → Out M H) (x : ℕ) (P : Type 0) (b : Bool) (s : M) → Held s → x < T.count → (b ≡ true → Dec' s x ⊎ P) → Comes (Wrote x s) (w s x) → Comes (λ s'. Step s s' × (Dec' s' x ⊎ P)) (once X T w x b s)
     unfolding once
     once_ok w x P true s h l f k = comes (step_refl s h, f refl)
     once_ok w x P false s h l f k =
@@ -239,7 +239,7 @@ module _ {M : Type 0} (X : Machine M) (T : Table) (Good : M → Type 0) (Dec' : 
     comp_id : (x : ℕ) → is_comp (T.node x) ≡ true → x ≡ 0 → ⊥
     comp_id x h q = true≢false (sym h ∙ ap is_comp (ap T.node q ∙ void))
 
-    abbrev ENested : (M → ℕ → ℕ → Out M) → Type 0
+    abbrev ENested : (M → ℕ → ℕ → Out M H) → Type 0
     ENested rec = (s : M) (x cont : ℕ) → Held s → x < T.count → (cont ≡ 0 → ⊥) → Pre s x → Comes (Nested x cont s) (rec s x cont)
 
     -- an enum or a FWD: with its line, or only marked
@@ -259,7 +259,7 @@ module _ {M : Type 0} (X : Machine M) (T : Table) (Good : M → Type 0) (Dec' : 
         all w n (inl q) = absurd (true≢false (sym (k (ap T.named q ∙ n.1))))
         all w n (inr q) = absurd (Memᴰ.not-nil q.1)
 
-    module _ (rec : M → ℕ → ℕ → Out M) (keeps : ENested rec) where
+    module _ (rec : M → ℕ → ℕ → Out M H) (keeps : ENested rec) where
       record Eached (ys : List ℕ) (cont : ℕ) (s s' : M) : Type 0 where
         step : Step s s'
         all : (y : ℕ) → Memᴰ y ys → Covered s' y cont
@@ -418,7 +418,7 @@ module _ {M : Type 0} (X : Machine M) (T : Table) (Good : M → Type 0) (Dec' : 
       pub line : Leaf T x → eget s' x ≡ done
 
     module _ (n : ℕ) (before : List ℕ) (s : M) (x : ℕ) (t : Top before s) (d : Due T before x) where
-      abbrev rec_n : M → ℕ → ℕ → Out M
+      abbrev rec_n : M → ℕ → ℕ → Out M H
       rec_n s' y c = emit X T n s' y c
 
       no_def : (nd : Node) → T.node x ≡ nd → is_def nd ≡ false → ⊥

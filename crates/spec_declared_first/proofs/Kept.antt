@@ -13,6 +13,7 @@ use borrow.Author.Tests.{ltb-false, ne_eqb}
 use Rattle.spec_bytes.specs.words.Words.{one_more, pick}
 use Rattle.spec_c_dumper.specs.rules.Types.{Name, Btf}
 use Rattle.spec_c_dumper.specs.rules.Names.{Space, Resolved, Naming, Names, naming, type_version, value_version, holders, with_one}
+use Rattle.spec_c_dumper.proofs.rules.Refusals.{Passing, type_passing, value_passing}
 use Rattle.spec_c_dumper.specs.names_apart.Naming.{of_type, Apart, is_name_among, taken, passing, number_for, shown, type_apart, value_apart, apart}
 use Rattle.spec_c_dumper.specs.rules.Names.{spelled}
 
@@ -24,6 +25,8 @@ pub record Keeping {U : Type 0} (N : Naming U) (n : ℕ) (Sound : U → Type 0) 
   pub gives : (space : Space) (id : ℕ) (name : Name) (u : U) (v : ℕ) → Holds u id v → (N.type_version space id name u).version ≡ v
   pub keeps_type : (space : Space) (id : ℕ) (name : Name) (u : U) (x v : ℕ) → Holds u x v → Holds (N.type_version space id name u).names x v
   pub keeps_value : (id i : ℕ) (name : Name) (u : U) (x v : ℕ) → Holds u x v → Holds (N.value_version id i name u).names x v
+  pub sound_leaving : (h u : U) → Sound u → Sound (N.leaving h u)
+  pub keeps_leaving : (h u : U) (x v : ℕ) → Holds u x v → Holds (N.leaving h u) x v
 
 -- ---- a list with the version of each type, 0 while it has none
 abbrev HasIn : List ℕ → ℕ → ℕ → Type 0
@@ -32,7 +35,11 @@ HasIn vs id v = (get_or vs id 0 ≡ v) × (eqb v 0 ≡ false)
 -- `type_version` of such names, by whether the type has no version yet: k is the new one; stay and next are the names after it
 module _ {U : Type 0} (versions : U → List ℕ) (n id k : ℕ) (some : k ≢ 0) (u stay next : U) (stays : versions stay ≡ versions u) (sets : versions next ≡ set (versions u) id k) where
   abbrev by : Bool → Resolved U
-  by b = elim b as (λ (t : Bool). Resolved U) [ false ↦ record { version = get_or (versions u) id 0; names = stay } | true ↦ record { version = k; names = next } ]
+  by b = elim b as (λ (t : Bool). Resolved U) [ false ↦ record { passes = false; version = get_or (versions u) id 0; names = stay } | true ↦ record { passes = false; version = k; names = next } ]
+
+  within_by : (b : Bool) → (by b).passes ≡ false
+  within_by true = refl
+  within_by false = refl
 
   sound_by : (b : Bool) → length (versions u) ≡ n → length (versions (by b).names) ≡ n
   sound_by true h = ap length sets ∙ length-set (versions u) id k ∙ h
@@ -88,6 +95,8 @@ naming_keeps n = record {
   gives = λ space id name u v h. gives_by (λ (w : Names). w.versions) n id (new n space id name u) (some n space id name u) u u (after n space id name u) refl refl (eqb (get_or u.versions id 0) 0) refl v h;
   keeps_type = λ space id name u x v h. keeps_by (λ (w : Names). w.versions) n id (new n space id name u) (some n space id name u) u u (after n space id name u) refl refl (eqb (get_or u.versions id 0) 0) refl x v h;
   keeps_value = λ id i name u x v h. h;
+  sound_leaving = λ h u q. q;
+  keeps_leaving = λ h u x v q. q;
 }
 
 -- ---- names that cannot collide
@@ -130,4 +139,19 @@ apart_keeps B n = record {
   gives = λ space id name u v h. gives_by (λ (w : Apart). w.names.versions) n id (number_for B space name u) (number_no_zero B n space id name u) u (stay B n space id name u) (next B n space id name u) refl refl (eqb (get_or u.names.versions id 0) 0) refl v h;
   keeps_type = λ space id name u x v h. keeps_by (λ (w : Apart). w.names.versions) n id (number_for B space name u) (number_no_zero B n space id name u) u (stay B n space id name u) (next B n space id name u) refl refl (eqb (get_or u.names.versions id 0) 0) refl x v h;
   keeps_value = λ id i name u x v h. h;
+  sound_leaving = λ h u q. q;
+  keeps_leaving = λ h u x v q. q;
 }
+
+-- no name of these passes
+pub naming_never : Passing naming → ⊥
+unfolding type_version value_version
+naming_never (type_passing space id name u e) =
+    true≢false (sym e ∙ within_by (λ (w : Names). w.versions) 0 id (new 0 space id name u) (some 0 space id name u) u u (after 0 space id name u) refl refl (eqb (get_or u.versions id 0) 0))
+naming_never (value_passing id i name u e) = true≢false (sym e)
+
+pub apart_never : (B : Btf) → Passing (apart B) → ⊥
+unfolding type_apart value_apart
+apart_never B (type_passing space id name u e) =
+    true≢false (sym e ∙ within_by (λ (w : Apart). w.names.versions) 0 id (number_for B space name u) (number_no_zero B 0 space id name u) u (stay B 0 space id name u) (next B 0 space id name u) refl refl (eqb (get_or u.names.versions id 0) 0))
+apart_never B (value_passing id i name u e) = true≢false (sym e)

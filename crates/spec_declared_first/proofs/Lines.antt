@@ -14,6 +14,7 @@ use Rattle.spec_c_dumper.specs.rules.Placing.{body_packed, tail_pads}
 use Rattle.spec_c_dumper.specs.rules.Decl.{deeper, enum_value, enum64_value, emit_composite_fwd, emit_fwd_def, emit_enum_def, composite_head, composite_body, composite_def, emit_type_decl, emit_composite_def, emit_typedef_def}
 use Rattle.spec_c_dumper.specs.rules.Emit.{definition, shown, forward}
 use Rattle.spec_c_dumper.specs.needs.Needs.{kids}
+use Rattle.spec_c_dumper.proofs.rules.Held.{resolved}
 use Rattle.spec_c_dumper.proofs.needs.Splits.{nil_not}
 use Rattle.spec_declared_first.specs.Notes.{Mention, Asked, noting, Note}
 use Rattle.spec_declared_first.specs.Declared.{NoBuiltin, Key, key_of, keys_of, name_in, own_name, Declares, Above}
@@ -182,26 +183,26 @@ module _ {U : Type 0} (N : Naming U) (B : Btf) (nb : NoBuiltin B) (Sound : U →
 
   -- a whole text
   abbrev pub Right : Said (Asked U) → Type 0
-  Right (said u (whole a)) = Going u
-  Right (said u (cut a c)) = Unit {0}
+  Right (said u (whole a) m) = Going u
+  Right (said u (cut a c) m) = Unit {0}
 
   pub record Starts (w : Writer (Asked U)) : Type 0 where
     pub starts : (u : Asked U) → Before u → Right (w u)
 
   right_of : (s : Said (Asked U)) → Going (said_names s) → Right s
   unfolding said_names
-  right_of (said u (whole a)) h = h
-  right_of (said u (cut a c)) h = tt
+  right_of (said u (whole a) m) h = h
+  right_of (said u (cut a c) m) h = tt
 
-  right_after : (a : List ℕ) (s : Said (Asked U)) → Going (said_names s) → Right (after a s)
+  right_after : (a : List ℕ) (k : List (Asked U)) (s : Said (Asked U)) → Going (said_names s) → Right (after a k s)
   unfolding after said_names join
-  right_after a (said u (whole b)) h = h
-  right_after a (said u (cut b c)) h = tt
+  right_after a k (said u (whole b) m) h = h
+  right_after a k (said u (cut b c) m) h = tt
 
   right_next : (s : Said (Asked U)) (w : Writer (Asked U)) → Right s → Kept w → Right (next s w)
   unfolding next
-  right_next (said u (whole a)) w h k = right_after a (w u) (k.keeps u h)
-  right_next (said u (cut a c)) w h k = tt
+  right_next (said u (whole a) m) w h k = right_after a m (w u) (k.keeps u h)
+  right_next (said u (cut a c) m) w h k = tt
 
   s_then : {v w : Writer (Asked U)} → Starts v → Kept w → Starts (v ⨾ w)
   unfolding ◌⨾◌
@@ -209,7 +210,7 @@ module _ {U : Type 0} (N : Naming U) (B : Btf) (nb : NoBuiltin B) (Sound : U →
 
   -- the own name first
   s_type : {k : Name → Writer (Asked U)} → (space : Space) (name : Name) → own_name x (B.type_by_id x) ≡ name_in space x name → name ≡ name_of (B.type_by_id x) → ((n : Name) → Kept (k n)) → Starts (resolve_type_name (noting N) space x name k)
-  unfolding resolve_type_name resolving
+  unfolding resolve_type_name stop
   s_type {k} space name own is h = go (is_empty name) refl
     where
       own_is : (b : Bool) → is_empty name ≡ b → own_name x (B.type_by_id x) ≡ (elim b as (λ (t : Bool). List Key) [ true ↦ [] | false ↦ record { space = space; id = x } ∷ [] ])
@@ -217,7 +218,11 @@ module _ {U : Type 0} (N : Naming U) (B : Btf) (nb : NoBuiltin B) (Sound : U →
 
       go : (b : Bool) → is_empty name ≡ b → Starts (elim b [ true ↦ k name | false ↦ resolving ((noting N).type_version space x name) (λ v. k (spelled name v)) ])
       go true e = record { starts = λ u q. right_of (k name u) ((h name).keeps u (begun_none u q (own_is true e))) }
-      go false e = record { starts = λ u q. right_of _ ((h (spelled name ((noting N).type_version space x name u).version)).keeps ((noting N).type_version space x name u).names (begun_one space name u q (own_is false e) is)) }
+      go false e = record {
+        starts = λ u q.
+            resolved Right ((noting N).type_version space x name) (λ v. k (spelled name v)) u (λ o. tt)
+            (λ o. right_of _ ((h (spelled name ((noting N).type_version space x name u).version)).keeps ((noting N).type_version space x name u).names (begun_one space name u q (own_is false e) is)));
+      }
 
   -- no name is the builtin one
   s_unless : {w : Writer (Asked U)} → (name : Name) → builtin name ≡ false → Starts w → Starts (elim (builtin name) [ true ↦ put [] | false ↦ w ])

@@ -184,12 +184,12 @@ module _ {U : Type 0} (N : Naming U) (B : Btf) (nb : NoBuiltin B) (below : (x y 
           go (inl j) = h.held q m j d
           go (inr j) = mine (subst (λ (k : Note). Declares B k m) (Memᴰ.eq_of_singleton j) d)
 
-    abbrev put' : Line (Known (Asked U)) → Out (Ls (Seen U))
+    abbrev put' : Line (Known (Asked U)) (Asked U) → Out (Ls (Seen U)) U
     put' k = put_line mk s (with_note mk x s.known k)
 
-    fitting_ok : (len : ℕ) (u : Asked U) (t : Text) → Right N B nb Sound Holds keep notes owned x l Q (said u t) → Shown N B (said u t) → Comes (Wrote' x s) (put' (fitting len u t))
+    fitting_ok : (len : ℕ) (u : Asked U) (t : Text) (m : List (Asked U)) → Right N B nb Sound Holds keep notes owned x l Q (said u t m) → Shown N B (said u t m) → Comes (Wrote' x s) (put' (fitting len u t))
     unfolding fitting
-    fitting_ok len u (whole a) h sh = comes (record {
+    fitting_ok len u (whole a) m h sh = comes (record {
       good = record {
         marks_n = g.marks_n;
         emits_n = g.emits_n;
@@ -204,15 +204,15 @@ module _ {U : Type 0} (N : Naming U) (B : Btf) (nb : NoBuiltin B) (below : (x y 
       decs = λ w d. has_more notes (p u a h sh) w d;
       self = (p u a h sh, Memᴰ.append_right notes (Memᴰ.head refl), refl);
     })
-    fitting_ok len u (cut a c) h sh = halts
+    fitting_ok len u (cut a c) m h sh = halts
 
     said_ok : (room len : ℕ) (q : Said (Asked U)) → Right N B nb Sound Holds keep notes owned x l Q q → Shown N B q → Comes (Wrote' x s) (put' (line_of room len q))
     unfolding line_of
-    said_ok room len (said u t) h sh = go (leb (len + length (bytes t)) (smaller room 1073741824))
+    said_ok room len (said u t m) h sh = go _ (leb (len + length (bytes t)) (smaller room 1073741824))
       where
-        go : (b : Bool) → Comes (Wrote' x s) (put' (elim b [ true ↦ fitting len u t | false ↦ cannot 17 ]))
-        go true = fitting_ok len u t h sh
-        go false = halts
+        go : (a : Asked U) (b : Bool) → Comes (Wrote' x s) (put' (elim b [ true ↦ fitting len u t | false ↦ cannot a 17 ]))
+        go a true = fitting_ok len u t m h sh
+        go a false = halts
 
     line_ok : (w : Writer (Asked U)) → Starts N B nb Sound Holds keep notes owned x l Q w → Shown N B (w (unasked s.known)) → Comes (Wrote' x s) (put' (line_of s.room s.known.known.text_len (w (unasked s.known))))
     line_ok w h sh = said_ok s.room s.known.known.text_len (w (unasked s.known)) (h.starts (unasked s.known) (record { sound = g.sound; held = g.held; nil = refl })) sh

@@ -7,13 +7,14 @@ use mathlib.Core.List.{List, [], ◌∷◌, ◌++◌, append_assoc, append-nil, 
 use lib.ListN.{length}
 use lib.Dec.{leb, eqb}
 use Rattle.spec_bytes.specs.text.Text.{Text, whole, cut, join}
-use Rattle.spec_c_dumper.specs.rules.Writer.{Ask, got, no, ask_then, checked, Said, said, said_text, said_names, Writer, after, next, ◌⨾◌, put, stop, given, misplaced}
+use Rattle.spec_c_dumper.specs.rules.Writer.{reserve_passed, Ask, got, no, ask_then, checked, Said, said, said_text, said_names, Writer, after, next, ◌⨾◌, put, stop, given, misplaced}
 use Rattle.spec_c_dumper.specs.rules.Types.{Name, is_empty, Member, Param, Enumerator, BtfType, Void, Int, Ptr, Array, Composite, Enum, Enum64, Fwd, Typedef, Mod, Func, Var, Datasec, FuncProto, Float, DeclTag, TypeTag, Btf}
 use Rattle.spec_c_dumper.specs.rules.Layout.{size_of, get_size_of, align_members, align_of, get_align_of, off_align, members_packed, is_struct_packed, Pad, bit_padding, end_of, pads_before}
 use Rattle.spec_c_dumper.specs.rules.Names.{Space, tag_space, ident_space, Naming, resolving, spelled, resolve_type_name, resolve_name, builtin}
 use Rattle.spec_c_dumper.specs.rules.Placing.{field_size, Extent, with_member, extent_of, no_extent, union_align, size_fits, measured, body_packed, tail_pads}
 use Rattle.spec_c_dumper.specs.rules.Decl.{deeper, sep_name, keyword, decl_tag, decl_tags, enum_value, enum64_value, Entry, base, star, qual, array, proto, tag, link_of, chain_on, chain_of, no_mods, is_array, no_params, shown_params, emit_composite_fwd, emit_fwd_def, enum_word, emit_values, enum_body, emit_enum_def, emit_name, parens, emit_param, emit_params, base_word, emit_array, emit_proto, param_list, chain_loop, emit_members, composite_head, composite_end, composite_body, composite_def, emit_type_decl, emit_type_chain, emit_composite_def, emit_typedef_def}
 use Rattle.spec_c_dumper.specs.rules.Emit.{definition, shown, forward}
+use Rattle.spec_c_dumper.proofs.rules.Held.{resolved, resolved_over, resolved_within}
 use Rattle.spec_declared_first.specs.Notes.{Mention, Asked, noting}
 use Rattle.spec_declared_first.specs.Declared.{Stands}
 use Rattle.spec_declared_first.proofs.Standing.{empty_nil, AllIn, stands_self, all_join, all_cons, sep_stands, Prints, p_put, p_first, p_second, p_emit_type_decl}
@@ -187,10 +188,15 @@ module _ (other : ℕ → Name → Name) (B : Btf) where
   unfolding keyword
   keyword_same is_struct = refl
 
-module _ {U : Type 0} (N : Naming U) (other : ℕ → Name → Name) (ren : Renames other) where
+-- over: where a name passes, the other one does too
+module _ {U : Type 0} (N : Naming U) (other : ℕ → Name → Name) (ren : Renames other)
+    (over : (space : Space) (id : ℕ) (name : Name) (u : U) → (N.type_version space id name u).passes ≡ true → (N.type_version space id (other id name) u).passes ≡ true) where
   -- The first asks for more than before, all of which stands in its text; and if what it asked for keeps its name, the second writes the same.
+  abbrev More : Asked U → Said (Asked U) → Type 0
+  More u s = (l : List Mention) × ((said_names s).mentions ≡ u.mentions ++ l) × AllIn l (said_text s)
+
   record Twin (w₁ w₂ : Writer (Asked U)) : Type 0 where
-    more : (u : Asked U) → (l : List Mention) × ((said_names (w₁ u)).mentions ≡ u.mentions ++ l) × AllIn l (said_text (w₁ u))
+    more : (u : Asked U) → More u (w₁ u)
     same : (u : Asked U) → Spares other (said_names (w₁ u)).mentions → w₂ u ≡ w₁ u
 
   front : (a l k : List Mention) → k ≡ a ++ l → Spares other k → Spares other a
@@ -202,34 +208,34 @@ module _ {U : Type 0} (N : Naming U) (other : ℕ → Name → Name) (ren : Rena
 
   t_put : {a a' : List ℕ} → a' ≡ a → Twin (put a) (put a')
   unfolding put said_names said_text
-  t_put {a} e = record { more = λ u. ([], sym (append-nil u.mentions), none_in (whole a)); same = λ u h. ap (λ (k : List ℕ). said u (whole k)) e }
+  t_put {a} e = record { more = λ u. ([], sym (append-nil u.mentions), none_in (whole a)); same = λ u h. ap (λ (k : List ℕ). put k u) e }
 
   t_stop : (c : ℕ) → Twin (stop c) (stop c)
   unfolding stop said_names said_text
   t_stop c = record { more = λ u. ([], sym (append-nil u.mentions), tt); same = λ u h. refl }
 
-  after_names : (a : List ℕ) (s : Said (Asked U)) → said_names (after a s) ≡ said_names s
+  after_names : (a : List ℕ) (m : List (Asked U)) (s : Said (Asked U)) → said_names (after a m s) ≡ said_names s
   unfolding after said_names
-  after_names a (said u t) = refl
+  after_names a m (said u t n) = refl
 
-  after_text : (a : List ℕ) (s : Said (Asked U)) → said_text (after a s) ≡ join (whole a) (said_text s)
+  after_text : (a : List ℕ) (m : List (Asked U)) (s : Said (Asked U)) → said_text (after a m s) ≡ join (whole a) (said_text s)
   unfolding after said_text
-  after_text a (said u t) = refl
+  after_text a m (said u t n) = refl
 
   next_more : (s : Said (Asked U)) (l₁ : List Mention) → AllIn l₁ (said_text s) → (w₁ w₂ : Writer (Asked U)) → Twin w₁ w₂
       → (l : List Mention) × ((said_names (next s w₁)).mentions ≡ (said_names s).mentions ++ l) × AllIn (l₁ ++ l) (said_text (next s w₁))
   unfolding next said_names said_text
-  next_more (said u (whole a)) l₁ k w₁ w₂ h = (
+  next_more (said u (whole a) m) l₁ k w₁ w₂ h = (
     (h.more u).0,
-    ap (λ (j : Asked U). j.mentions) (after_names a (w₁ u)) ∙ (h.more u).1,
-    subst (AllIn (l₁ ++ (h.more u).0)) (sym (after_text a (w₁ u))) (all_join l₁ (h.more u).0 a (said_text (w₁ u)) k (h.more u).2),
+    ap (λ (j : Asked U). j.mentions) (after_names a m (w₁ u)) ∙ (h.more u).1,
+    subst (AllIn (l₁ ++ (h.more u).0)) (sym (after_text a m (w₁ u))) (all_join l₁ (h.more u).0 a (said_text (w₁ u)) k (h.more u).2),
   )
-  next_more (said u (cut a c)) l₁ k w₁ w₂ h = ([], sym (append-nil u.mentions), tt)
+  next_more (said u (cut a c) m) l₁ k w₁ w₂ h = ([], sym (append-nil u.mentions), tt)
 
   next_same : (s : Said (Asked U)) (w₁ w₂ : Writer (Asked U)) → Twin w₁ w₂ → Spares other (said_names (next s w₁)).mentions → next s w₂ ≡ next s w₁
   unfolding next
-  next_same (said u (whole a)) w₁ w₂ h k = ap (after a) (h.same u (subst (λ (j : Asked U). Spares other j.mentions) (after_names a (w₁ u)) k))
-  next_same (said u (cut a c)) w₁ w₂ h k = refl
+  next_same (said u (whole a) m) w₁ w₂ h k = ap (after a m) (h.same u (subst (λ (j : Asked U). Spares other j.mentions) (after_names a m (w₁ u)) k))
+  next_same (said u (cut a c) m) w₁ w₂ h k = refl
 
   t_then : {v₁ w₁ v₂ w₂ : Writer (Asked U)} → Twin v₁ v₂ → Twin w₁ w₂ → Twin (v₁ ⨾ w₁) (v₂ ⨾ w₂)
   unfolding ◌⨾◌
@@ -256,7 +262,7 @@ module _ {U : Type 0} (N : Naming U) (other : ℕ → Name → Name) (ren : Rena
       go (no c) = t_stop c
 
   t_type : {k₁ k₂ : Name → Writer (Asked U)} → (space : Space) (id : ℕ) (name : Name) → ((n : Name) → Prints n (k₁ n)) → ((n : Name) → Twin (k₁ n) (k₂ n)) → Twin (resolve_type_name (noting N) space id name k₁) (resolve_type_name (noting N) space id (other id name) k₂)
-  unfolding resolve_type_name resolving
+  unfolding resolve_type_name
   t_type {k₁} {k₂} space id name pr h =
       subst (λ (j : Bool). Twin (resolve_type_name (noting N) space id name k₁) (elim j [ true ↦ k₂ (other id name) | false ↦ resolving ((noting N).type_version space id (other id name)) (λ v. k₂ (spelled (other id name) v)) ])) (sym (ren.same_empty id name))
       (go (is_empty name) refl)
@@ -266,6 +272,9 @@ module _ {U : Type 0} (N : Naming U) (other : ℕ → Name → Name) (ren : Rena
 
       called : (k : Name → Writer (Asked U)) → Name → Asked U → Said (Asked U)
       called k n u = k (spelled n ((noting N).type_version space id n u).version) (asked n u)
+
+      written : Name → Asked U → Said (Asked U)
+      written n u = resolving ((noting N).type_version space id n) (λ v. k₂ (spelled n v)) u
 
       its : Asked U → Mention
       its u = record { space = space; id = id; name = spelled name (N.type_version space id name u.names).version }
@@ -281,19 +290,26 @@ module _ {U : Type 0} (N : Naming U) (other : ℕ → Name → Name) (ren : Rena
           (elim b [ true ↦ k₂ (other id name) | false ↦ resolving ((noting N).type_version space id (other id name)) (λ v. k₂ (spelled (other id name) v)) ])
       go true e = subst (λ (n : Name). Twin (k₁ name) (k₂ n)) (empty_nil name e ∙ sym (empty_nil (other id name) (ren.same_empty id name ∙ e))) (h name)
       go false e = record {
-        more = λ u. (
+        more = λ u. resolved (More u) ((noting N).type_version space id name) (λ v. k₁ (spelled name v)) u (λ p. (t_stop reserve_passed).more u) (λ p. (
           its u ∷ (inner u).0,
           (inner u).1 ∙ append_assoc u.mentions (its u ∷ []) (inner u).0,
           all_cons (its u) (inner u).0 (said_text (called k₁ name u)) ((pr (spelled name ((noting N).type_version space id name u).version)).prints (asked name u)) (inner u).2,
-        );
-        same = λ u s. ap (λ (n : Name). called k₂ n u) (kept u s) ∙ (h (spelled name ((noting N).type_version space id name u).version)).same (asked name u) s;
+        ));
+        same = λ u. resolved (λ r. Spares other (said_names r).mentions → written (other id name) u ≡ r) ((noting N).type_version space id name) (λ v. k₁ (spelled name v)) u
+            (λ p s. sym (resolved_over ((noting N).type_version space id (other id name)) (λ v. k₂ (spelled (other id name) v)) u (over space id name u.names p)))
+            (λ p s. ap (λ (n : Name). written n u) (kept u s) ∙ sym (resolved_within ((noting N).type_version space id name) (λ v. k₂ (spelled name v)) u p)
+            ∙ (h (spelled name ((noting N).type_version space id name u).version)).same (asked name u) s);
       }
 
   t_value : {k₁ k₂ : Name → Writer (Asked U)} → (id i : ℕ) (name : Name) → ((n : Name) → Twin (k₁ n) (k₂ n)) → Twin (resolve_name (noting N) id i name k₁) (resolve_name (noting N) id i name k₂)
-  unfolding resolve_name resolving
-  t_value id i name h = record {
-    more = λ u. (h (spelled name ((noting N).value_version id i name u).version)).more ((noting N).value_version id i name u).names;
-    same = λ u s. (h (spelled name ((noting N).value_version id i name u).version)).same ((noting N).value_version id i name u).names s;
+  unfolding resolve_name
+  t_value {k₁} {k₂} id i name h = record {
+    more = λ u. resolved (More u) ((noting N).value_version id i name) (λ v. k₁ (spelled name v)) u (λ p. (t_stop reserve_passed).more u)
+        (λ p. (h (spelled name ((noting N).value_version id i name u).version)).more ((noting N).value_version id i name u).names);
+    same = λ u. resolved (λ r. Spares other (said_names r).mentions → resolving ((noting N).value_version id i name) (λ v. k₂ (spelled name v)) u ≡ r)
+        ((noting N).value_version id i name) (λ v. k₁ (spelled name v)) u
+        (λ p s. sym (resolved_over ((noting N).value_version id i name) (λ v. k₂ (spelled name v)) u p))
+        (λ p s. sym (resolved_within ((noting N).value_version id i name) (λ v. k₂ (spelled name v)) u p) ∙ (h (spelled name ((noting N).value_version id i name u).version)).same ((noting N).value_version id i name u).names s);
   }
 
   tp : (a : List ℕ) → Twin (put a) (put a)
@@ -485,22 +501,22 @@ module _ {U : Type 0} (N : Naming U) (other : ℕ → Name → Name) (ren : Rena
 module _ {U : Type 0} (N : Naming U) (B : Btf) where
   -- all mentions of what was said
   abbrev pub Shown : Said (Asked U) → Type 0
-  Shown (said u (whole a)) = (m : Mention) → Memᴰ m u.mentions → Stands m.name a
-  Shown (said u (cut a c)) = Unit {0}
+  Shown (said u (whole a) k) = (m : Mention) → Memᴰ m u.mentions → Stands m.name a
+  Shown (said u (cut a c) k) = Unit {0}
 
   own_names : Renames (λ (id : ℕ) (n : Name). n)
   own_names = record { same_empty = λ id n. refl; same_builtin = λ id n. refl }
 
   shown_said : (s : Said (Asked U)) (l : List Mention) → (said_names s).mentions ≡ [] ++ l → AllIn l (said_text s) → Shown s
   unfolding said_names said_text
-  shown_said (said u (whole a)) l e h = λ m i. h m (subst (Memᴰ m) e i)
-  shown_said (said u (cut a c)) l e h = tt
+  shown_said (said u (whole a) k) l e h = λ m i. h m (subst (Memᴰ m) e i)
+  shown_said (said u (cut a c) k) l e h = tt
 
-  shown_twin : (w₁ w₂ : Writer (Asked U)) → Twin N (λ id n. n) own_names w₁ w₂ → (u : Asked U) → u.mentions ≡ [] → Shown (w₁ u)
+  shown_twin : (w₁ w₂ : Writer (Asked U)) → Twin N (λ id n. n) own_names (λ space id n x o. o) w₁ w₂ → (u : Asked U) → u.mentions ≡ [] → Shown (w₁ u)
   shown_twin w₁ w₂ h u e = let q = h.more u in shown_said (w₁ u) q.0 (q.1 ∙ ap (λ (k : List Mention). k ++ q.0) e) q.2
 
   pub shown_forward : (id : ℕ) (u : Asked U) → u.mentions ≡ [] → Shown (forward (noting N) B id (B.type_by_id id) u)
-  shown_forward id u e = shown_twin _ _ (t_forward N (λ x n. n) own_names B id (B.type_by_id id)) u e
+  shown_forward id u e = shown_twin _ _ (t_forward N (λ x n. n) own_names (λ space x n v o. o) B id (B.type_by_id id)) u e
 
   pub shown_definition : (id : ℕ) (u : Asked U) → u.mentions ≡ [] → Shown (definition (noting N) B id (B.type_by_id id) u)
-  shown_definition id u e = shown_twin _ _ (t_definition N (λ x n. n) own_names B id (B.type_by_id id)) u e
+  shown_definition id u e = shown_twin _ _ (t_definition N (λ x n. n) own_names (λ space x n v o. o) B id (B.type_by_id id)) u e

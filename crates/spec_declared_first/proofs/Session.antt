@@ -22,7 +22,7 @@ use Rattle.spec_declared_first.proofs.Kept.{Keeping}
 use Rattle.spec_declared_first.proofs.NotesMachine.{Good, Told, Frame, notes_noting, notes_steady, declared_above, none}
 
 module _ {U : Type 0} (N : Naming U) (B : Btf) (nb : NoBuiltin B) (wf : WF (table_of B)) (Sound : U → Type 0) (Holds : U → ℕ → ℕ → Type 0) (keep : Keeping N B.type_cnt Sound Holds) where
-  abbrev X : Machine (Ls (Seen U))
+  abbrev X : Machine (Ls (Seen U)) U
   X = notes_machine N B
 
   abbrev T : Table
@@ -65,11 +65,21 @@ module _ {U : Type 0} (N : Naming U) (B : Btf) (nb : NoBuiltin B) (wf : WF (tabl
     whole : List ℕ
     live : S.is_open ≡ true → (room : ℕ) → IsInv whole (X.start room S.mach) × IsTop whole (X.start room S.mach)
 
-  shut_inv : (S : Sess M) (e : ℕ) → SInv S → SInv (shut X T S e).sess
-  unfolding shut
-  shut_inv S e i = record { good = i.good; whole = i.whole; live = λ h. absurd (true≢false (sym h)) }
+  left_good : (u : U) (s : M) → Fine s → Fine (X.leaving u s)
+  left_good u s g = record {
+    marks_n = g.marks_n;
+    emits_n = g.emits_n;
+    fwds_n = g.fwds_n;
+    orderly = g.orderly;
+    sound = keep.sound_leaving u s.known.known.names g.sound;
+    held = λ q m j d. let z = g.held q m j d in (z.0, keep.keeps_leaving u s.known.known.names m.id z.0 z.1, z.2);
+  }
 
-  emitted_ok : (S : Sess M) (x : ℕ) (i : SInv S) (s : M) → IsInv i.whole s → (r : Out M)
+  shut_inv : (S : Sess M) (u : U) (e : ℕ) → SInv S → SInv (shut X T S u e).sess
+  unfolding shut
+  shut_inv S u e i = record { good = left_good u S.mach i.good; whole = i.whole; live = λ h. absurd (true≢false (sym h)) }
+
+  emitted_ok : (S : Sess M) (x : ℕ) (i : SInv S) (s : M) → IsInv i.whole s → (r : Out M U)
       → Comes (Listed X T Fine (Told N B nb wf.below Sound Holds keep) (notes_noting N B nb wf.below Sound Holds keep) wf.void wf.below (i.whole ++ X.store.list s) s) r → SInv (emitted X T S x r).sess
   unfolding emitted
   emitted_ok S x i s o (wrote m) (comes h) = record {
@@ -77,7 +87,7 @@ module _ {U : Type 0} (N : Naming U) (B : Btf) (nb : NoBuiltin B) (wf : WF (tabl
     whole = i.whole ++ X.store.list s;
     live = λ u r. (inv_next i.whole s m r h.top.held.good h.gets o, top_frame (i.whole ++ X.store.list s) m (X.start r m) (start_good r m h.top.held.good) (start_frame r m) h.top);
   }
-  emitted_ok S x i s o (stuck e) halts = shut_inv S e i
+  emitted_ok S x i s o (stuck m e) halts = shut_inv S m e i
 
   ordered_ok : (room : ℕ) (S : Sess M) (x : ℕ) (i : SInv S) → IsTop i.whole (X.start room S.mach) → (r : Res M)
       → Gives (Post X.store T Fine (Frame N B nb wf.below Sound Holds keep) (notes_steady N B nb wf.below Sound Holds keep) wf.below i.whole (X.start room S.mach) x) r → SInv (ordered X T S x r).sess
@@ -85,7 +95,7 @@ module _ {U : Type 0} (N : Naming U) (B : Btf) (nb : NoBuiltin B) (wf : WF (tabl
   ordered_ok room S x i t (ok s b) (gives p) = emitted_ok S x i s p.grown.inv (eeach (λ m y. emit X T 512 m y 0) (X.store.list s) s)
       (emit_list X T Fine (Told N B nb wf.below Sound Holds keep) (notes_noting N B nb wf.below Sound Holds keep) wf.void wf.below 512 (X.store.list s) i.whole s
       (top_frame i.whole (X.start room S.mach) s p.grown.inv.fine p.grown.frame t) p.grown.inv.sorted)
-  ordered_ok room S x i t (refused e) refuses = shut_inv S e i
+  ordered_ok room S x i t (refused e) refuses = shut_inv S (X.held S.mach) e i
 
   gate_ok : (room : ℕ) (S : Sess M) (x : ℕ) → SInv S → (o b : Bool) → S.is_open ≡ o → ltb x T.count ≡ b → SInv (gate X T room S x o b).sess
   unfolding gate

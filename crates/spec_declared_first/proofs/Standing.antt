@@ -91,19 +91,19 @@ module _ {U : Type 0} (n : Name) where
 
   p_next_first : (s : Said U) (w : Writer U) → In n (said_text s) → In n (said_text (next s w))
   unfolding next after said_text
-  p_next_first (said u (whole a)) w h = go (w u)
+  p_next_first (said u (whole a) k) w h = go (w u)
     where
-      go : (s : Said U) → In n (said_text (after a s))
-      go (said v t) = in_first n a t h
-  p_next_first (said u (cut a c)) w h = tt
+      go : (s : Said U) → In n (said_text (after a k s))
+      go (said v t m) = in_first n a t h
+  p_next_first (said u (cut a c) k) w h = tt
 
   p_next_second : (s : Said U) (w : Writer U) → Prints w → In n (said_text (next s w))
   unfolding next after said_text
-  p_next_second (said u (whole a)) w h = go (w u) (h.prints u)
+  p_next_second (said u (whole a) k) w h = go (w u) (h.prints u)
     where
-      go : (s : Said U) → In n (said_text s) → In n (said_text (after a s))
-      go (said v t) k = in_second n a t k
-  p_next_second (said u (cut a c)) w h = tt
+      go : (s : Said U) → In n (said_text s) → In n (said_text (after a k s))
+      go (said v t m) q = in_second n a t q
+  p_next_second (said u (cut a c) k) w h = tt
 
   pub p_first : {v : Writer U} (w : Writer U) → Prints v → Prints (v ⨾ w)
   unfolding ◌⨾◌

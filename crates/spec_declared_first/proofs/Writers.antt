@@ -8,13 +8,14 @@ use lib.ListN.{length}
 use lib.Dec.{eqb}
 use Rattle.spec_bytes.specs.text.Text.{whole, cut}
 use Rattle.spec_c_dumper.specs.rules.Order.{Table, is_comp}
-use Rattle.spec_c_dumper.specs.rules.Writer.{Ask, got, no, Said, said, said_names, Writer, after, next, ◌⨾◌, put, stop, given}
+use Rattle.spec_c_dumper.specs.rules.Writer.{reserve_passed, Ask, got, no, Said, said, said_names, Writer, after, next, ◌⨾◌, put, stop, given}
 use Rattle.spec_c_dumper.specs.rules.Types.{Name, is_empty, Member, Param, Enumerator, BtfType, Void, Int, Ptr, Array, Composite, Enum, Enum64, Fwd, Typedef, Mod, Func, Var, Datasec, FuncProto, Float, DeclTag, TypeTag, Btf, member_types, param_types, node_of, name_of, is_named, table_of}
 use Rattle.spec_c_dumper.specs.rules.Layout.{bit_padding, end_of, Pad}
 use Rattle.spec_c_dumper.specs.rules.Names.{Space, tag_space, ident_space, Naming, resolving, spelled, resolve_type_name, resolve_name, builtin}
 use Rattle.spec_c_dumper.specs.rules.Placing.{body_packed, tail_pads}
 use Rattle.spec_c_dumper.specs.rules.Decl.{deeper, enum_value, enum64_value, Entry, base, star, qual, array, proto, tag, Link, ends, leads, link_of, chain_on, chain_of, no_mods, is_array, no_params, shown_params, emit_composite_fwd, emit_fwd_def, enum_word, emit_values, enum_body, emit_enum_def, emit_name, parens, emit_param, emit_params, base_word, emit_array, emit_proto, param_list, chain_loop, emit_members, composite_head, composite_end, composite_body, composite_def, emit_type_decl, emit_type_chain, emit_composite_def}
 use Rattle.spec_c_dumper.specs.needs.Needs.{kids}
+use Rattle.spec_c_dumper.proofs.rules.Held.{resolved}
 use Rattle.spec_c_dumper.proofs.needs.Placed.{is_def}
 use Rattle.spec_declared_first.specs.Notes.{Asked, noting}
 use Rattle.spec_declared_first.specs.Declared.{Key, name_in, own_name}
@@ -38,14 +39,14 @@ module _ {U : Type 0} (N : Naming U) (P : Space → ℕ → Name → Type 0) (I 
   unfolding stop said_names
   k_stop c = record { keeps = λ u h. h }
 
-  k_after : (a : List ℕ) (s : Said (Asked U)) → I (said_names s) → I (said_names (after a s))
+  k_after : (a : List ℕ) (m : List (Asked U)) (s : Said (Asked U)) → I (said_names s) → I (said_names (after a m s))
   unfolding after said_names
-  k_after a (said u t) h = h
+  k_after a m (said u t n) h = h
 
   k_next : (s : Said (Asked U)) (w : W) → I (said_names s) → Keeps w → I (said_names (next s w))
   unfolding next said_names
-  k_next (said u (whole a)) w h k = k_after a (w u) (k.keeps u h)
-  k_next (said u (cut a c)) w h k = h
+  k_next (said u (whole a) m) w h k = k_after a m (w u) (k.keeps u h)
+  k_next (said u (cut a c) m) w h k = h
 
   pub k_then : {v w : W} → Keeps v → Keeps w → Keeps (v ⨾ w)
   unfolding ◌⨾◌
@@ -61,16 +62,24 @@ module _ {U : Type 0} (N : Naming U) (P : Space → ℕ → Name → Type 0) (I 
   k_given (no c) h = k_stop c
 
   k_type : {k : Name → W} → (space : Space) (id : ℕ) (name : Name) → (is_empty name ≡ false → P space id name) → ((n : Name) → Keeps (k n)) → Keeps (resolve_type_name (noting N) space id name k)
-  unfolding resolve_type_name resolving
+  unfolding resolve_type_name
   k_type {k} space id name p h = go (is_empty name) refl
     where
       go : (b : Bool) → is_empty name ≡ b → Keeps (elim b [ true ↦ k name | false ↦ resolving ((noting N).type_version space id name) (λ v. k (spelled name v)) ])
       go true e = h name
-      go false e = record { keeps = λ u i. (h (spelled name ((noting N).type_version space id name u).version)).keeps ((noting N).type_version space id name u).names (asks space id name u (p e) i) }
+      go false e = record {
+        keeps = λ u i.
+            resolved (λ s. I (said_names s)) ((noting N).type_version space id name) (λ v. k (spelled name v)) u (λ o. (k_stop reserve_passed).keeps u i)
+            (λ o. (h (spelled name ((noting N).type_version space id name u).version)).keeps ((noting N).type_version space id name u).names (asks space id name u (p e) i));
+      }
 
   k_value : {k : Name → W} → (id i : ℕ) (name : Name) → ((n : Name) → Keeps (k n)) → Keeps (resolve_name (noting N) id i name k)
-  unfolding resolve_name resolving
-  k_value {k} id i name h = record { keeps = λ u q. (h (spelled name ((noting N).value_version id i name u).version)).keeps ((noting N).value_version id i name u).names (counts id i name u q) }
+  unfolding resolve_name
+  k_value {k} id i name h = record {
+    keeps = λ u q.
+        resolved (λ s. I (said_names s)) ((noting N).value_version id i name) (λ v. k (spelled name v)) u (λ o. (k_stop reserve_passed).keeps u q)
+        (λ o. (h (spelled name ((noting N).value_version id i name u).version)).keeps ((noting N).value_version id i name u).names (counts id i name u q));
+  }
 
   k_emit_name : (fname : Name) (last_was_ptr : Bool) → Keeps (emit_name fname last_was_ptr)
   unfolding emit_name

@@ -26,6 +26,7 @@ pub record Asked (U : Type 0) : Type 0 where
 abbrev pub noting : {U : Type 0} → Naming U → Naming (Asked U)
 noting N = record {
   type_version = λ space id name u. record {
+    passes = (N.type_version space id name u.names).passes;
     version = (N.type_version space id name u.names).version;
     names = record {
       names = (N.type_version space id name u.names).names;
@@ -34,9 +35,11 @@ noting N = record {
     };
   };
   value_version = λ id i name u. record {
+    passes = (N.value_version id i name u.names).passes;
     version = (N.value_version id i name u.names).version;
     names = record { names = (N.value_version id i name u.names).names; mentions = u.mentions };
   };
+  leaving = λ held u. record { names = N.leaving held.names u.names; mentions = u.mentions };
 }
 
 -- a piece, the type that it is of, and what it mentions, in the order of asking: a typedef's own name first, then as in the text
@@ -51,12 +54,12 @@ pub record Seen (U : Type 0) : Type 0 where
   pub notes : List Note
 
 -- the piece of type x goes into the notes
-abbrev pub with_note : {U : Type 0} → (List ℕ → Piece) → ℕ → Seen U → Line (Known (Asked U)) → Line (Seen U)
+abbrev pub with_note : {U : Type 0} → (List ℕ → Piece) → ℕ → Seen U → Line (Known (Asked U)) (Asked U) → Line (Seen U) U
 with_note mk x k (says a t) = says (record {
   known = record { names = a.names.names; text_len = a.text_len };
   notes = k.notes ++ (record { piece = mk t; id = x; mentions = a.names.mentions } ∷ []);
 }) t
-with_note mk x k (cannot e) = cannot e
+with_note mk x k (cannot a e) = cannot a.names e
 
 -- at the start of a piece
 abbrev pub unasked : {U : Type 0} → Seen U → Asked U
@@ -64,16 +67,21 @@ unasked k = record { names = k.known.names; mentions = [] }
 
 -- with any way of keeping names: the lines, the machine and the opened session of crates/spec_c_dumper/specs/needs/Session, with notes
 module _ {U : Type 0} (N : Naming U) (B : Btf) where
-  abbrev pub notes_lines : Lines (Seen U)
+  abbrev pub notes_lines : Lines (Seen U) U
   notes_lines = record {
     fwd = λ room k id. with_note other id k (line_of room k.known.text_len (forward (noting N) B id (B.type_by_id id) (unasked k)));
     alias' = λ room k id. with_note other id k (line_of room k.known.text_len (forward (noting N) B id (B.type_by_id id) (unasked k)));
     leaf' = λ room k id. with_note other id k (line_of room k.known.text_len (definition (noting N) B id (B.type_by_id id) (unasked k)));
     body' =
         λ room k id. with_note (defines id) id k (line_of room k.known.text_len (definition (noting N) B id (B.type_by_id id) (unasked k)));
+    held' = λ k. k.known.names;
+    leaving' = λ held k. record {
+      known = record { names = N.leaving held k.known.names; text_len = k.known.text_len };
+      notes = k.notes;
+    };
   }
 
-  abbrev pub notes_machine : Machine (Ls (Seen U))
+  abbrev pub notes_machine : Machine (Ls (Seen U)) U
   notes_machine = list_machine notes_lines
 
   abbrev pub notes_opened : U → Sess (Ls (Seen U))

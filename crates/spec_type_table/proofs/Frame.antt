@@ -156,7 +156,7 @@ module _ (b : TypeTable) (s w : List ℕ) where
       u : List ℕ
       u = count_raised (class_p b.types) (count_p b.types) w id
 
-      go : (t : Bool) → btf_of b s (elim t as (λ z. Resolved (List ℕ)) [ false ↦ record { version = get_field w id 4; names = w } | true ↦ record { version = n; names = put_field u id 4 n } ]).names ≡ btf_of b s w
+      go : (t : Bool) → btf_of b s (elim t as (λ z. Resolved (List ℕ)) [ false ↦ record { passes = false; version = get_field w id 4; names = w } | true ↦ record { passes = false; version = n; names = put_field u id 4 n } ]).names ≡ btf_of b s w
       go false = refl
       go true = table_field u id 4 n (omega arith) b s (λ e. omega arith) (λ e. omega arith) (λ e. omega arith) ∙ table_counted id
 
@@ -170,7 +170,7 @@ module _ (b : TypeTable) (s w : List ℕ) where
       u : List ℕ
       u = count_raised (class_p b.types) (count_p b.types) w (b.types + e)
 
-      go : (t : Bool) → btf_of b s (elim t as (λ z. Resolved (List ℕ)) [ true ↦ record { version = n; names = u } | false ↦ record { version = 0; names = w } ]).names ≡ btf_of b s w
+      go : (t : Bool) → btf_of b s (elim t as (λ z. Resolved (List ℕ)) [ true ↦ record { passes = false; version = n; names = u } | false ↦ record { passes = false; version = 0; names = w } ]).names ≡ btf_of b s w
       go false = refl
       go true = table_counted (b.types + e)
 
@@ -185,7 +185,7 @@ module _ (types : ℕ) (w : List ℕ) (x k : ℕ) where
       u : List ℕ
       u = count_raised (class_p types) (count_p types) w id
 
-      go : (t : Bool) → enumerator_of (elim t as (λ z. Resolved (List ℕ)) [ false ↦ record { version = get_field w id 4; names = w } | true ↦ record { version = n; names = put_field u id 4 n } ]).names x k ≡ enumerator_of w x k
+      go : (t : Bool) → enumerator_of (elim t as (λ z. Resolved (List ℕ)) [ false ↦ record { passes = false; version = get_field w id 4; names = w } | true ↦ record { passes = false; version = n; names = put_field u id 4 n } ]).names x k ≡ enumerator_of w x k
       go false = refl
       go true = enumerator_field u id 4 n (omega arith) x k (λ e. omega arith) ∙ enumerator_counted types w id x k
 
@@ -199,6 +199,36 @@ module _ (types : ℕ) (w : List ℕ) (x k : ℕ) where
       u : List ℕ
       u = count_raised (class_p types) (count_p types) w (types + e)
 
-      go : (t : Bool) → enumerator_of (elim t as (λ z. Resolved (List ℕ)) [ true ↦ record { version = n; names = u } | false ↦ record { version = 0; names = w } ]).names x k ≡ enumerator_of w x k
+      go : (t : Bool) → enumerator_of (elim t as (λ z. Resolved (List ℕ)) [ true ↦ record { passes = false; version = n; names = u } | false ↦ record { passes = false; version = 0; names = w } ]).names x k ≡ enumerator_of w x k
       go false = refl
       go true = enumerator_counted types w (types + e) x k
+
+-- no name passes
+module _ (types : ℕ) where
+  pub type_within : (id : ℕ) (w : List ℕ) → (type_version_in types id w).passes ≡ false
+  unfolding type_version_in
+  type_within id w = go (eqb (get_field w id 4) 0)
+    where
+      n : ℕ
+      n = number_at types w id
+
+      u : List ℕ
+      u = count_raised (class_p types) (count_p types) w id
+
+      go : (t : Bool) → (elim t as (λ z. Resolved (List ℕ)) [ false ↦ record { passes = false; version = get_field w id 4; names = w } | true ↦ record { passes = false; version = n; names = put_field u id 4 n } ]).passes ≡ false
+      go false = refl
+      go true = refl
+
+  pub value_within : (e : ℕ) (w : List ℕ) → (value_version_in types e w).passes ≡ false
+  unfolding value_version_in
+  value_within e w = go (ltb (types + e) 4294967296)
+    where
+      n : ℕ
+      n = number_at types w (types + e)
+
+      u : List ℕ
+      u = count_raised (class_p types) (count_p types) w (types + e)
+
+      go : (t : Bool) → (elim t as (λ z. Resolved (List ℕ)) [ true ↦ record { passes = false; version = n; names = u } | false ↦ record { passes = false; version = 0; names = w } ]).passes ≡ false
+      go false = refl
+      go true = refl

@@ -112,8 +112,9 @@ btf_of b s w = record {
 unfoldable pub type_version_in : ℕ → ℕ → List ℕ → Resolved (List ℕ)
 type_version_in types id w =
     elim (eqb (get_field w id 4) 0) [
-      | false ↦ record { version = get_field w id 4; names = w }
+      | false ↦ record { passes = false; version = get_field w id 4; names = w }
       | true ↦ record {
+        passes = false;
         version = number_at types w id;
         names = put_field (count_raised (class_p types) (count_p types) w id) id 4 (number_at types w id);
       }
@@ -128,14 +129,16 @@ unfoldable pub value_version_in : ℕ → ℕ → List ℕ → Resolved (List �
 value_version_in types e w =
     elim (ltb (types + e) 4294967296) [
       | true ↦ record {
+        passes = false;
         version = number_at types w (types + e);
         names = count_raised (class_p types) (count_p types) w (types + e);
       }
-      | false ↦ record { version = 0; names = w }
+      | false ↦ record { passes = false; version = 0; names = w }
     ]
 
 unfoldable pub work_naming : TypeTable → Naming (List ℕ)
 work_naming b = record {
   type_version = λ space id name w. type_version_in b.types id w;
   value_version = λ id k name w. value_version_in b.types (enumerator_of w id k) w;
+  leaving = λ held w. w;
 }

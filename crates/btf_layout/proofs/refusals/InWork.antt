@@ -1,17 +1,19 @@
 -- Lines by the remembering way over the work: what reads neither words 15 and word 2 of void nor the names stays, and what refuses a line is 12, 15, 16 or 18.
 -- Assumes nothing.
 use Prim.Native.Nat.{ℕ}
-use mathlib.Core.Path.{◌≡◌, refl, ◌∙◌}
-use mathlib.Core.Bool.{Bool, true, false}
+use mathlib.Core.Path.{◌≡◌, refl, sym, ◌∙◌}
+use mathlib.Core.Bool.{Bool, true, false, true≢false}
 use mathlib.Core.List.{List}
 use lib.Dec.{leb, eqb}
 use Rattle.spec_c_dumper.specs.rules.Types.{Name, Member, BtfType, Btf as Rules}
 use Rattle.spec_c_dumper.specs.rules.Names.{Space}
+use Rattle.spec_c_dumper.proofs.rules.Closed.{Code}
 use Rattle.spec_c_dumper.proofs.rules.Keeps.{Keeps}
-use Rattle.spec_c_dumper.proofs.rules.Refusals.{Tells}
+use Rattle.spec_c_dumper.proofs.rules.Refusals.{Passing, type_passing, value_passing, Tells}
 use Rattle.spec_type_table.specs.declared.types.TypeTable.{TypeTable}
 use Rattle.spec_type_table.specs.Cells.{get_field, put_field}
-use Rattle.spec_type_table.specs.Table.{work_naming}
+use Rattle.spec_type_table.specs.Table.{enumerator_of, work_naming}
+use Rattle.spec_type_table.proofs.Frame.{type_within, value_within}
 use Rattle.spec_c_dumper.specs.alignment_once.Once.{Remembered, Once, found, refused, memory_after, member_count}
 use Rattle.spec_c_dumper.specs.alignment_once.Writers.{definition_once, forward_once}
 use Rattle.spec_c_dumper.proofs.alignment_once.Keeps.{keeps_definition, keeps_forward}
@@ -53,11 +55,16 @@ module _ {Z : Type 0} (P : List ℕ → Z) (count : (w : List ℕ) (v : ℕ) →
     pub forward_keeps : Keeps P (forward_once (work_asks b.types B) (work_naming b) B id t)
     forward_keeps = keeps_forward (work_asks b.types B) (work_naming b) P types values padding_keeps body_keeps B id t
 
-module _ (b : TypeTable) (B : Rules) (id : ℕ) (t : BtfType) where
-  pub definition_tells : Tells (definition_once (work_asks b.types B) (work_naming b) B id t)
-  definition_tells =
-      tells_definition (work_asks b.types B) (work_naming b) (λ offset x packed w. coded_padding (work_keep b.types B) B offset x packed w (get_field w 0 2)) (λ is_struct x sz ms w. coded_body (work_keep b.types B) B is_struct x sz ms w (get_field w 0 2)) B id t
+never_passes : (b : TypeTable) → Passing (work_naming b) → ⊥
+unfolding work_naming
+never_passes b (type_passing space x name w e) = true≢false (sym e ∙ type_within b.types x w)
+never_passes b (value_passing x i name w e) = true≢false (sym e ∙ value_within b.types (enumerator_of w x i) w)
 
-  pub forward_tells : Tells (forward_once (work_asks b.types B) (work_naming b) B id t)
+module _ (b : TypeTable) (B : Rules) (id : ℕ) (t : BtfType) where
+  pub definition_tells : Tells Code (definition_once (work_asks b.types B) (work_naming b) B id t)
+  definition_tells =
+      tells_definition (work_asks b.types B) (work_naming b) (never_passes b) (λ offset x packed w. coded_padding (work_keep b.types B) B offset x packed w (get_field w 0 2)) (λ is_struct x sz ms w. coded_body (work_keep b.types B) B is_struct x sz ms w (get_field w 0 2)) B id t
+
+  pub forward_tells : Tells Code (forward_once (work_asks b.types B) (work_naming b) B id t)
   forward_tells =
-      tells_forward (work_asks b.types B) (work_naming b) (λ offset x packed w. coded_padding (work_keep b.types B) B offset x packed w (get_field w 0 2)) (λ is_struct x sz ms w. coded_body (work_keep b.types B) B is_struct x sz ms w (get_field w 0 2)) B id t
+      tells_forward (work_asks b.types B) (work_naming b) (never_passes b) (λ offset x packed w. coded_padding (work_keep b.types B) B offset x packed w (get_field w 0 2)) (λ is_struct x sz ms w. coded_body (work_keep b.types B) B is_struct x sz ms w (get_field w 0 2)) B id t

@@ -96,8 +96,8 @@ module _ (b : TypeTable) (s : List ℕ) (at k : ℕ) where
 
 -- the entries, the width and the sign are the record's
 pub values_same : (b : TypeTable) (B : Rules) (s : List ℕ) (t : Record) (es : Entries) (w f : Bool) (id lvl : ℕ) (tx : List ℕ) (at : Placed) (u : List ℕ) → es ≡ entries_of t → w ≡ is_wide t → f ≡ flag_of t.info
-    → put_said tx at (emit_values (work_naming b) B (value_text w f) id lvl 0 (from (enumerator_at w b s es.at) 0 es.vlen) u) ≡ put_said tx at (emit_values (work_naming b) B (value_text (is_wide t) (flag_of t.info)) id lvl 0 (enum_values b s t) u)
-values_same b B s t es w f id lvl tx at u ee ew ef = λ i. put_said tx at (emit_values (work_naming b) B (value_text (ew i) (ef i)) id lvl 0 (from (enumerator_at (ew i) b s (ee i).at) 0 (ee i).vlen) u)
+    → put_said tx at (emit_values (work_naming b) B (value_text w f) id lvl 0 (from (enumerator_at w b s es.at) 0 es.vlen)) u ≡ put_said tx at (emit_values (work_naming b) B (value_text (is_wide t) (flag_of t.info)) id lvl 0 (enum_values b s t)) u
+values_same b B s t es w f id lvl tx at u ee ew ef = λ i. put_said tx at (emit_values (work_naming b) B (value_text (ew i) (ef i)) id lvl 0 (from (enumerator_at (ew i) b s (ee i).at) 0 (ee i).vlen)) u
 
 -- ---- what is written of the values, by the kind
 module _ (b : TypeTable) (s : List ℕ) (t : Record) {R : Type 0} (g : (ℕ → List ℕ) → List Enumerator → R) where

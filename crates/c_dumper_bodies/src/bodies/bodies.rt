@@ -53,8 +53,7 @@ pub fn emit_enum_word(
     ensures { out_of result text.new work.new
         ≡ put_said text.old (Ok at) (enum_text (work_naming b.now.head) (btf_of b.now.head b.now.section.now work.old)
         (value_text (is_wide x.t) (flag_of x.t.info)) x.id (record_name b.now.head b.now.section.now x.t)
-        (enum_values b.now.head b.now.section.now x.t) lvl
-        work.old) }
+        (enum_values b.now.head b.now.section.now x.t) lvl) work.old }
 {
     if b.is_empty(x.t.name_off) {
         return emit_enum_def(b, work, text, at, x, lvl);
@@ -71,7 +70,7 @@ pub fn put_typedef_name(
 ) -> Result<usize, Refusal>
     ensures { out_of result text.new work.new
         ≡ put_said text.old (Ok at) (resolve_type_name (work_naming b.now.head) ident_space x.id
-        (str_at b.now.head b.now.section.now x.t.name_off) put work.old) }
+        (str_at b.now.head b.now.section.now x.t.name_off) put) work.old }
 {
     let name = resolve_type_name(b, work, x);
     put_name(b, text, at, name)
@@ -86,7 +85,7 @@ pub fn emit_composite_head(
 ) -> Result<usize, Refusal>
     ensures { out_of result text.new work.new
         ≡ put_said text.old (Ok at) (composite_head (work_naming b.now.head) (btf_of b.now.head b.now.section.now work.old) no_decl x.id
-        (eqb (kind_of x.t.info) 4) (record_name b.now.head b.now.section.now x.t) work.old) }
+        (eqb (kind_of x.t.info) 4) (record_name b.now.head b.now.section.now x.t)) work.old }
 {
     let name = resolve_type_name(b, work, x);
     let a = put_keyword(b.head, text, at, is_struct(x.t))?;
@@ -106,7 +105,7 @@ pub fn emit_member_end(
 ) -> Result<Spot, Refusal>
     ensures { (out_of (placed (λ s. s.at) result) text.new work.now
         ≡ put_said text.old (Ok at) (member_tail (btf_of b.now.head b.now.section.now work.now) id k
-        (rule_member b.now.head b.now.section.now m) work.now))
+        (rule_member b.now.head b.now.section.now m)) work.now)
         × IfOk result (λ s. s.offset
         ≡ end_from (end_of (btf_of b.now.head b.now.section.now work.now) (rule_member b.now.head b.now.section.now m))) }
 {
@@ -127,7 +126,7 @@ pub fn emit_composite_end(
 ) -> Result<usize, Refusal>
     ensures { out_of result text.new work.now
         ≡ put_said text.old (Ok at) (composite_end (work_naming b.now.head) (btf_of b.now.head b.now.section.now work.now) no_decl
-        body.x.id body.lvl (members_of b.now.head b.now.section.now body.x.t) body.packed work.now) }
+        body.x.id body.lvl (members_of b.now.head b.now.section.now body.x.t) body.packed) work.now }
 {
     let a = put_last_newline(text, at, vlen_of(body.x.t.info))?;
     let c = put_tabs(text, a, body.lvl)?;

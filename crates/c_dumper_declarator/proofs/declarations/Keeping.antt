@@ -11,7 +11,7 @@ use Rattle.spec_c_dumper.specs.rules.Names.{Naming}
 use Rattle.spec_c_dumper.specs.rules.Layout.{end_of}
 use Rattle.spec_c_dumper.specs.rules.Decl.{Entry, base, star, qual, array, proto, tag, no_mods, pads, emit_name, base_word}
 use Rattle.spec_c_dumper.specs.rules.Place.{out_of, put_said}
-use Rattle.spec_c_dumper.proofs.rules.Writing.{put_only}
+use Rattle.spec_c_dumper.proofs.rules.Writing.{put_only, said_alike}
 use Rattle.spec_c_dumper.proofs.rules.Keeps.{Keeps, keeps_put, keeps_stop, keeps_then, keeps_emit_param, keeps_base_word, keeps_emit_array, keeps_emit_proto, keeps_param_list}
 use Rattle.spec_c_dumper.specs.alignment_once.Writers.{Asks, given_once, emit_type_decl_once, emit_type_chain_once, emit_composite_def_once}
 use Rattle.spec_c_dumper.proofs.alignment_once.Keeps.{keeps_asked, keeps_decl, keeps_chain, keeps_composite}
@@ -24,12 +24,12 @@ use Rattle.c_dumper_bodies.specs.bodies.Pieces.{array_below, proto_below, param_
 use Rattle.c_dumper_declarator.proofs.declarations.Kept.{seen, keeps_type, keeps_value, keeps_padding, keeps_body}
 
 -- the same writer, said in another way
-pub said_as : {U : Type 0} → (t : List ℕ) (at : Placed) (v w : Writer U) (u : U) (r : Placed) (t' : List ℕ) (u' : U) → v ≡ w → out_of r t' u' ≡ put_said t at (v u) → out_of r t' u' ≡ put_said t at (w u)
-said_as t at v w u r t' u' e o = o ∙ ap (λ x. put_said t at (x u)) e
+pub said_as : {U : Type 0} → (t : List ℕ) (at : Placed) (v w : Writer U) (u : U) (r : Placed) (t' : List ℕ) (u' : U) → v ≡ w → out_of r t' u' ≡ put_said t at v u → out_of r t' u' ≡ put_said t at w u
+said_as t at v w u r t' u' e o = o ∙ ap (λ x. put_said t at x u) e
 
 -- a name, after a star or not
-pub put_emit_name : {U : Type 0} → (t : List ℕ) (at : Placed) (fname : Name) (p : Bool) (u : U) (r : Placed) (t' : List ℕ) → put_out r t' ≡ put_text t at (whole (name_after fname p)) → out_of r t' u ≡ put_said t at (emit_name fname p u)
-put_emit_name t at fname p u r t' e = put_only t at (name_after fname p) u r t' e ∙ ap (put_said t at) (sym (emit_name_is fname p u))
+pub put_emit_name : {U : Type 0} → (t : List ℕ) (at : Placed) (fname : Name) (p : Bool) (u : U) (r : Placed) (t' : List ℕ) → put_out r t' ≡ put_text t at (whole (name_after fname p)) → out_of r t' u ≡ put_said t at (emit_name fname p) u
+put_emit_name t at fname p u r t' e = put_only _ t at (name_after fname p) u r t' e ∙ said_alike _ t at _ _ u (sym (emit_name_is fname p u))
 
 module _ (b : TypeTable) (s : List ℕ) where
   abbrev pub N : Naming (List ℕ)

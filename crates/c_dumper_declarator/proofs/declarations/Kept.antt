@@ -1,18 +1,18 @@
 -- What no version of a name and no alignment that is remembered changes: the table, and the chains in it. So emitters keep both. Assumes nothing.
 use Prim.Native.Nat.{ℕ, zero, suc, ◌+◌, ◌*◌}
 use mathlib.Core.Path.{◌≡◌, refl, ap, ap₂, ◌∙◌, sym, subst}
-use mathlib.Core.Bool.{Bool, true, false, false≢true}
+use mathlib.Core.Bool.{Bool, true, false}
 use mathlib.Core.List.{List, ◌∷◌}
 use native.Mathlib.Omega.{arith}
 use lib.Dec.{ltb, leb, eqb}
-use Rattle.spec_bytes.specs.text.Placed.{Out, done, stopped, Placed, placed, put_out, put_text}
-use Rattle.spec_c_dumper.specs.rules.Writer.{Said, said, said_names, Writer, ◌⨾◌}
+use Rattle.spec_bytes.specs.text.Placed.{stopped, Placed, placed}
+use Rattle.spec_c_dumper.specs.rules.Writer.{Writer, ◌⨾◌}
 use Rattle.spec_c_dumper.specs.rules.Types.{Name, Member, Btf as Rules}
 use Rattle.spec_c_dumper.specs.rules.Names.{Space, Resolved}
 use Rattle.spec_c_dumper.specs.rules.Decl.{Entry, link_of}
 use Rattle.spec_c_dumper.specs.rules.Chain.{entry_by}
-use Rattle.spec_c_dumper.specs.rules.Place.{Wrote, wrote, refused as refused_by, with_names, out_of, put_said}
-use Rattle.spec_c_dumper.proofs.rules.Writing.{put_then, put_then_kept, said_ended}
+use Rattle.spec_c_dumper.specs.rules.Place.{Wrote, out_of, put_said}
+use Rattle.spec_c_dumper.proofs.rules.Writing.{put_then, put_then_kept, names_left, said_ended}
 use Rattle.spec_c_dumper.proofs.rules.Keeps.{Keeps}
 use Rattle.spec_type_table.specs.declared.types.TypeTable.{TypeTable}
 use Rattle.spec_type_table.specs.declared.types.BtfType.{BtfType as Record}
@@ -28,27 +28,15 @@ use Rattle.btf_layout.proofs.remembered.Keeps.{table_keeps}
 use Rattle.btf_layout.specs.asked.Asked.{ask_in, work_asks}
 use Rattle.btf_layout.proofs.asked.Stays.{Stays, stays_forget, stays_padding, stays_body}
 use Rattle.c_dumper_padding.specs.placing.Steps.{body_in}
-use Rattle.std.specs.Prelude.{Result, Ok, Err, IsErrAnd, IfOk}
+use Rattle.std.specs.Prelude.{Result, Ok, Err, IsErrAnd, IfOk, ⊤}
 use Rattle.spec_bytes.specs.declared.refusal.Refusal.{Refusal}
 
--- ---- where the writing has come to a place, the names are those that the writer left
-module _ {U : Type 0} where
-  names_of : U → Wrote U → U
-  names_of d (wrote t at u) = u
-  names_of d (refused_by c) = d
+-- a writer, and the names that it begins with
+abbrev pub Begun : Type 0
+Begun = Writer (List ℕ) × List ℕ
 
-  is_wrote : Wrote U → Bool
-  is_wrote (wrote t at u) = true
-  is_wrote (refused_by c) = false
-
-  names_same : (u v : U) (t : List ℕ) (n : ℕ) (q : Out) → with_names u (done t n) ≡ with_names v q → u ≡ v
-  unfolding with_names names_of is_wrote
-  names_same u v t n (done t₁ k) e = ap (names_of u) e
-  names_same u v t n (stopped c) e = absurd (false≢true (sym (ap is_wrote e)))
-
-  names_left : (t : List ℕ) (at : Placed) (s : Said U) (n : ℕ) (t' : List ℕ) (u' : U) → out_of (Ok n) t' u' ≡ put_said t at s → u' ≡ said_names s
-  unfolding out_of put_out put_said said_names
-  names_left t at (said v x) n t' u' e = names_same u' v t' n (put_text t at x) e
+abbrev pub put_begun : List ℕ → Placed → Begun → Wrote (List ℕ) ⊤
+put_begun t at s = put_said t at s.0 s.1
 
 module _ (b : TypeTable) (s : List ℕ) where
   module _ (u w : List ℕ) (h : (id : ℕ) → record_by_id b s u id ≡ record_by_id b s w id) where
@@ -88,7 +76,7 @@ module _ (b : TypeTable) (s : List ℕ) where
       u : List ℕ
       u = count_raised (class_p b.types) (count_p b.types) w id
 
-      go : (t : Bool) → get_field (elim t as (λ z. Resolved (List ℕ)) [ false ↦ record { version = get_field w id 4; names = w } | true ↦ record { version = n; names = put_field u id 4 n } ]).names j 0 ≡ get_field w j 0
+      go : (t : Bool) → get_field (elim t as (λ z. Resolved (List ℕ)) [ false ↦ record { passes = false; version = get_field w id 4; names = w } | true ↦ record { passes = false; version = n; names = put_field u id 4 n } ]).names j 0 ≡ get_field w j 0
       go false = refl
       go true = field_other u id 4 n j 0 (omega arith) (omega arith) (λ e. omega arith) ∙ counted_other b.types w id (j * 16 + 0) (λ c. count_0 b.types c j)
 
@@ -102,7 +90,7 @@ module _ (b : TypeTable) (s : List ℕ) where
       u : List ℕ
       u = count_raised (class_p b.types) (count_p b.types) w (b.types + e)
 
-      go : (t : Bool) → get_field (elim t as (λ z. Resolved (List ℕ)) [ true ↦ record { version = n; names = u } | false ↦ record { version = 0; names = w } ]).names j 0 ≡ get_field w j 0
+      go : (t : Bool) → get_field (elim t as (λ z. Resolved (List ℕ)) [ true ↦ record { passes = false; version = n; names = u } | false ↦ record { passes = false; version = 0; names = w } ]).names j 0 ≡ get_field w j 0
       go false = refl
       go true = counted_other b.types w (b.types + e) (j * 16 + 0) (λ c. count_0 b.types c j)
 
@@ -154,42 +142,42 @@ module _ (b : TypeTable) (s : List ℕ) where
 
   -- v, and then what is written with what is seen
   pub then_on : (x : Seen → Writer (List ℕ)) (t : List ℕ) (at : Placed) (v : Writer (List ℕ)) (u : List ℕ) (n : Placed) (t' u' : List ℕ) (r : Placed) (t'' u'' : List ℕ)
-      → Keeps seen v → out_of n t' u' ≡ put_said t at (v u) → out_of r t'' u'' ≡ put_said t' n (x (seen u') u') → out_of r t'' u'' ≡ put_said t at ((v ⨾ x (seen u)) u)
-  then_on x t at v u n t' u' r t'' u'' k e₁ e₂ = put_then_kept seen x t at v u n t' u' r t'' u'' (k u) e₁ e₂
+      → Keeps seen v → out_of n t' u' ≡ put_said t at v u → out_of r t'' u'' ≡ put_said t' n (x (seen u')) u' → out_of r t'' u'' ≡ put_said t at (v ⨾ x (seen u)) u
+  then_on x t at v u n t' u' r t'' u'' k e₁ e₂ = put_then_kept _ seen x t at v u n t' u' r t'' u'' (k u) e₁ e₂
 
   -- so chains that are seen stay, where v has come to a place
-  pub links_kept : (v : Writer (List ℕ)) (t : List ℕ) (at : Placed) (u : List ℕ) (n : ℕ) (t' u' : List ℕ) (id m : ℕ) → Keeps seen v → out_of (Ok n) t' u' ≡ put_said t at (v u)
+  pub links_kept : (v : Writer (List ℕ)) (t : List ℕ) (at : Placed) (u : List ℕ) (n : ℕ) (t' u' : List ℕ) (id m : ℕ) → Keeps seen v → out_of (Ok n) t' u' ≡ put_said t at v u
       → only_links (chain_at b s u id m) ≡ true → only_links (chain_at b s u' id m) ≡ true
   unfolding seen
-  links_kept v t at u n t' u' id m k o l = ap (λ (x : Seen). only_links (x.1 id m)) (ap seen (names_left t at (v u) n t' u' o) ∙ k u) ∙ l
+  links_kept v t at u n t' u' id m k o l = ap (λ (x : Seen). only_links (x.1 id m)) (ap seen (names_left _ t at v u n t' u' o) ∙ (k u).0) ∙ l
 
   -- ---- a loop: what is left is the whole
-  pub Leads : List ℕ → Placed → Said (List ℕ) → List ℕ → Placed → Said (List ℕ) → Type 0
-  Leads t₀ at₀ s₀ t at s₁ = (r : Placed) (t' u' : List ℕ) → out_of r t' u' ≡ put_said t at s₁ → out_of r t' u' ≡ put_said t₀ at₀ s₀
+  pub Leads : List ℕ → Placed → Begun → List ℕ → Placed → Begun → Type 0
+  Leads t₀ at₀ s₀ t at s₁ = (r : Placed) (t' u' : List ℕ) → out_of r t' u' ≡ put_begun t at s₁ → out_of r t' u' ≡ put_begun t₀ at₀ s₀
 
-  pub leads_start : (t : List ℕ) (at : Placed) (s₀ : Said (List ℕ)) → Leads t at s₀ t at s₀
+  pub leads_start : (t : List ℕ) (at : Placed) (s₀ : Begun) → Leads t at s₀ t at s₀
   unfolding Leads
   leads_start t at s₀ r t' u' e = e
 
-  pub leads_end : (t₀ : List ℕ) (at₀ : Placed) (s₀ : Said (List ℕ)) (t : List ℕ) (at : Placed) (s₁ : Said (List ℕ)) (r : Placed) (t' u' : List ℕ)
-      → Leads t₀ at₀ s₀ t at s₁ → out_of r t' u' ≡ put_said t at s₁ → out_of r t' u' ≡ put_said t₀ at₀ s₀
+  pub leads_end : (t₀ : List ℕ) (at₀ : Placed) (s₀ : Begun) (t : List ℕ) (at : Placed) (s₁ : Begun) (r : Placed) (t' u' : List ℕ)
+      → Leads t₀ at₀ s₀ t at s₁ → out_of r t' u' ≡ put_begun t at s₁ → out_of r t' u' ≡ put_begun t₀ at₀ s₀
   unfolding Leads
   leads_end t₀ at₀ s₀ t at s₁ r t' u' l e = l r t' u' e
 
   -- a turn v, and then the rest
-  pub leads_turn : (x : Seen → Writer (List ℕ)) (t₀ : List ℕ) (at₀ : Placed) (s₀ : Said (List ℕ)) (t : List ℕ) (at : Placed) (s₁ : Said (List ℕ)) (v : Writer (List ℕ)) (u : List ℕ) (n : Placed) (t' u' : List ℕ)
-      → Leads t₀ at₀ s₀ t at s₁ → s₁ ≡ (v ⨾ x (seen u)) u → Keeps seen v → out_of n t' u' ≡ put_said t at (v u) → Leads t₀ at₀ s₀ t' n (x (seen u') u')
+  pub leads_turn : (x : Seen → Writer (List ℕ)) (t₀ : List ℕ) (at₀ : Placed) (s₀ : Begun) (t : List ℕ) (at : Placed) (s₁ : Begun) (v : Writer (List ℕ)) (u : List ℕ) (n : Placed) (t' u' : List ℕ)
+      → Leads t₀ at₀ s₀ t at s₁ → s₁ ≡ (v ⨾ x (seen u), u) → Keeps seen v → out_of n t' u' ≡ put_said t at v u → Leads t₀ at₀ s₀ t' n (x (seen u'), u')
   unfolding Leads
-  leads_turn x t₀ at₀ s₀ t at s₁ v u n t' u' l e k o r t'' u'' q = l r t'' u'' (then_on x t at v u n t' u' r t'' u'' k o q ∙ ap (put_said t at) (sym e))
+  leads_turn x t₀ at₀ s₀ t at s₁ v u n t' u' l e k o r t'' u'' q = l r t'' u'' (then_on x t at v u n t' u' r t'' u'' k o q ∙ ap (put_begun t at) (sym e))
 
   -- a turn that a refusal stopped has stopped the whole
-  pub leads_halt : (t₀ : List ℕ) (at₀ : Placed) (s₀ : Said (List ℕ)) (t : List ℕ) (at : Placed) (s₁ : Said (List ℕ)) (v w : Writer (List ℕ)) (u : List ℕ) (c : Refusal) (t' u' : List ℕ) (r : Placed)
-      → Leads t₀ at₀ s₀ t at s₁ → s₁ ≡ (v ⨾ w) u → out_of (Err c) t' u' ≡ put_said t at (v u) → IsErrAnd r (λ e. e ≡ c) → out_of r t' u' ≡ put_said t₀ at₀ s₀
-  leads_halt t₀ at₀ s₀ t at s₁ v w u c t' u' r l e o i =
-      leads_end t₀ at₀ s₀ t at s₁ r t' u' l (put_then t at v w u (Err c) t' u' r t' u' o (said_ended t' r c (w u') u' i) ∙ ap (put_said t at) (sym e))
+  pub leads_halt : (t₀ : List ℕ) (at₀ : Placed) (s₀ : Begun) (t : List ℕ) (at : Placed) (s₁ : Begun) (v w : Writer (List ℕ)) (u : List ℕ) (c : Refusal) (t' u' : List ℕ) (r : Placed)
+      → Leads t₀ at₀ s₀ t at s₁ → s₁ ≡ (v ⨾ w, u) → Keeps seen v → out_of (Err c) t' u' ≡ put_said t at v u → IsErrAnd r (λ e. e ≡ c) → out_of r t' u' ≡ put_begun t₀ at₀ s₀
+  leads_halt t₀ at₀ s₀ t at s₁ v w u c t' u' r l e k o i =
+      leads_end t₀ at₀ s₀ t at s₁ r t' u' l (put_then _ t at v w u (Err c) t' u' r t' u' (k u).1 o (said_ended _ t' r c w u' i) ∙ ap (put_begun t at) (sym e))
 
 -- ---- where a function answers more than a place: the `?` that hands on a refusal tells of the text only
-pub halted : {A U : Type 0} (at_of : A → ℕ) (P : A → Type 0) (t : List ℕ) (at : Placed) (s : Said U) (t' : List ℕ) (u' : U) (c : Refusal) (r : Result A Refusal)
-    → out_of (Err c) t' u' ≡ put_said t at s → IsErrAnd r (λ e. e ≡ c) → (out_of (placed at_of r) t' u' ≡ put_said t at s) × IfOk r P
-halted at_of P t at s t' u' c (Ok x) o i = absurd i
-halted at_of P t at s t' u' c (Err d) o i = (ap (λ k. out_of (Err k) t' u') i ∙ o, tt)
+pub halted : {A U : Type 0} (at_of : A → ℕ) (P : A → Type 0) (o : Wrote U ⊤) (t' : List ℕ) (u' : U) (c : Refusal) (r : Result A Refusal)
+    → out_of (Err c) t' u' ≡ o → IsErrAnd r (λ e. e ≡ c) → (out_of (placed at_of r) t' u' ≡ o) × IfOk r P
+halted at_of P o t' u' c (Ok x) e i = absurd i
+halted at_of P o t' u' c (Err d) e i = (ap (λ k. out_of (Err k) t' u') i ∙ e, tt)

@@ -5,13 +5,14 @@ use mathlib.Core.Bool.{Bool}
 use mathlib.Core.List.{List, [], ◌∷◌, ◌++◌, append_assoc}
 use native.Mathlib.Omega.{arith}
 use borrow.Author.Tests.{ne_eqb}
-use Rattle.spec_bytes.specs.text.Text.{ascii, pfx, join}
-use Rattle.spec_c_dumper.specs.rules.Writer.{Ask, got, Writer, after, next, ◌⨾◌, put, given}
+use Rattle.spec_bytes.specs.text.Text.{ascii, pfx}
+use Rattle.spec_c_dumper.specs.rules.Writer.{Ask, got, Writer, ◌⨾◌, put, given}
 use Rattle.spec_c_dumper.specs.rules.Types.{Name, Member, Btf}
 use Rattle.spec_c_dumper.specs.rules.Names.{Naming}
 use Rattle.spec_c_dumper.specs.rules.Layout.{Pad, bit_padding, end_of}
 use Rattle.spec_c_dumper.specs.rules.Decl.{pads, own_line, tail_text, bit_size_of, emit_decl_tags, emit_members}
 use Rattle.spec_c_dumper.specs.rules.SystemV.{Line, field, pad_lines, body_lines, write_lines}
+use Rattle.spec_c_dumper.proofs.rules.Writing.{put_put}
 use Rattle.spec_c_dumper.proofs.rules.Asking.{then_got}
 use Rattle.c_dumper_declarator.proofs.declarations.Sequences.{then_assoc, nothing_then, then_nothing}
 
@@ -19,10 +20,6 @@ module _ {U : Type 0} where
   given_got : {A : Type 0} (x : Ask A) (k : A → Writer U) (a : A) → x ≡ got a → given x k ≡ k a
   unfolding given
   given_got x k a e = ap (λ y. given y k) e
-
-  put_put : (a b : List ℕ) → ◌≡◌ {A = Writer U} (put a ⨾ put b) (put (a ++ b))
-  unfolding ◌⨾◌ next after put join
-  put_put a b = refl
 
   module _ (B : Btf) (decl : ℕ → Name → ℕ → Writer U) (id lvl : ℕ) where
     one_pad : (p : Pad) (ps : List Pad) → pads lvl (p ∷ []) ++ pads lvl ps ≡ pads lvl (p ∷ ps)
@@ -35,7 +32,7 @@ module _ {U : Type 0} where
     pads_written (p ∷ ps) i ls =
         ap (◌⨾◌ (put (pads lvl (p ∷ [])))) (pads_written ps i ls)
         ∙ sym (then_assoc _ _ _)
-        ∙ ap (λ (v : Writer U). v ⨾ write_lines B decl id lvl i ls) (put_put (pads lvl (p ∷ [])) (pads lvl ps) ∙ ap put (one_pad p ps))
+        ∙ ap (λ (v : Writer U). v ⨾ write_lines B decl id lvl i ls) ((λ j u. put_put (pads lvl (p ∷ [])) (pads lvl ps) u j) ∙ ap put (one_pad p ps))
 
     pads_only : (ps : List Pad) (i : ℕ) → write_lines B decl id lvl i (pad_lines ps []) ≡ put (pads lvl ps)
     unfolding write_lines
@@ -53,7 +50,7 @@ module _ {U : Type 0} where
       unfolding body_lines emit_members tail_text
       no_member_written i offset ls e =
           let q : pad_lines (tail offset) [] ≡ ls = cc in
-          sym (put_put (pads lvl (tail offset)) (own_line i (tail offset)))
+          (λ j u. sym (put_put (pads lvl (tail offset)) (own_line i (tail offset)) u) j)
           ∙ ap (λ (v : Writer U). v ⨾ put (own_line i (tail offset))) (sym (pads_only (tail offset) i) ∙ ap (write_lines B decl id lvl i) q)
 
       -- a member: its pads, its line, and those after it

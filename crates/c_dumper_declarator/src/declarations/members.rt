@@ -38,7 +38,7 @@ pub fn emit_composite_def(
     ensures { out_of result text.new work.new
         ≡ put_said text.old (Ok at) (emit_composite_def_once (work_asks b.now.head.types (btf_of b.now.head b.now.section.now work.old))
         (work_naming b.now.head) (btf_of b.now.head b.now.section.now work.old) left x.id (eqb (kind_of x.t.info) 4)
-        (record_name b.now.head b.now.section.now x.t) x.t.type_id (members_of b.now.head b.now.section.now x.t) lvl work.old) }
+        (record_name b.now.head b.now.section.now x.t) x.t.type_id (members_of b.now.head b.now.section.now x.t) lvl) work.old }
 {
     if left == 0 {
         return Err(Refusal::TooDeep);
@@ -66,7 +66,7 @@ fn emit_members(
         ≡ put_said text.old (Ok at) (members_below (work_asks b.now.head.types (btf_of b.now.head b.now.section.now work.old))
         (work_naming b.now.head) (btf_of b.now.head b.now.section.now work.old) below body.x.id
         (tail_pads b.now.head.placing b.now.head.ptr_sz (eqb (kind_of body.x.t.info) 4) body.x.t.type_id) (level_within body.lvl)
-        body.packed 0 0 (members_of b.now.head b.now.section.now body.x.t) work.old) }
+        body.packed 0 0 (members_of b.now.head b.now.section.now body.x.t)) work.old }
 {
     let vlen = vlen_of(body.x.t.info);
     let mut s = Spot { at, offset: 0 };
@@ -98,7 +98,7 @@ fn emit_member(
         ≡ put_said text.old (Ok s.at)
         (member_text (work_asks b.now.head.types (btf_of b.now.head b.now.section.now work.old)) (work_naming b.now.head)
         (btf_of b.now.head b.now.section.now work.old) below body.x.id (level_within body.lvl) body.packed k s.offset
-        (rule_member b.now.head b.now.section.now (member_of b.now.head b.now.section.now body.x.t k)) work.old))
+        (rule_member b.now.head b.now.section.now (member_of b.now.head b.now.section.now body.x.t k))) work.old)
         × IfOk result (λ r. r.offset ≡ end_from (end_of (btf_of b.now.head b.now.section.now work.new)
         (rule_member b.now.head b.now.section.now (member_of b.now.head b.now.section.now body.x.t k)))) }
 {

@@ -51,19 +51,19 @@ around_listed (proto ts) e = e
 around_listed (comp ts) e = refl
 
 -- without the leaders
-unfoldable pub forget_leaders : Out Beside → Out (Traced Slices)
+unfoldable pub forget_leaders : Out Beside (Unit {0}) → Out (Traced Slices) (Unit {0})
 forget_leaders (wrote m) = wrote m.traced
-forget_leaders (stuck c) = stuck c
+forget_leaders (stuck h c) = stuck h c
 
-pub forget_with : (l : List ℕ) (o : Out (Traced Slices)) → forget_leaders (with_leaders l o) ≡ o
+pub forget_with : (l : List ℕ) (o : Out (Traced Slices) (Unit {0})) → forget_leaders (with_leaders l o) ≡ o
 unfolding forget_leaders with_leaders
 forget_with l (wrote m) = refl
-forget_with l (stuck c) = refl
+forget_with l (stuck h c) = refl
 
-with_is : (l : List ℕ) (o : Out (Traced Slices)) (k : Beside) → with_leaders l o ≡ wrote k → k.leaders ≡ l
+with_is : (l : List ℕ) (o : Out (Traced Slices) (Unit {0})) (k : Beside) → with_leaders l o ≡ wrote k → k.leaders ≡ l
 unfolding with_leaders
 with_is l (wrote m) k e = let z : k ≡ record { traced = m; leaders = l } = cc in ap (λ (y : Beside). y.leaders) z
-with_is l (stuck c) k e = absurd (let z : ◌≡◌ {A = ℕ} 0 1 = cc in omega arith)
+with_is l (stuck h c) k e = absurd (let z : ◌≡◌ {A = ℕ} 0 1 = cc in omega arith)
 
 -- ---- before the first request
 zeros_before : (n : ℕ) (l : List ℕ) → l ≡ replicate n 0 → Before 1 l
@@ -99,11 +99,11 @@ module _ (b : TypeTable) (B : Rules) (few : Few B) (room : ℕ) (m : Slices) (es
   whys : (leaders : List (ℕ × ℕ)) → ((p : ℕ × ℕ) → Memᴰ p leaders → LedTo T id p.0 p.1) → entry_in id turn (tabled turn l₀ leaders) ≡ listed_entry id leaders
   whys leaders h = entry_is id turn (tabled turn l₀ leaders) leaders (λ x. leader_is id turn 262145 leaders l₀ size (λ p i. fits p (h p i)) x (before_none turn l₀ old x))
 
-  same : (r : Res (WithLeaders Marks)) → Holds (AllLedTo T id) r → forget_leaders (listed_kept b B held id turn start (tell (rmap (kept_from id turn l₀) r) made)) ≡ listed_traced (work_machine b B) T (up_to room) (shows_in B) id es (rmap (beside_leaders m id) r)
+  same : (r : Res (WithLeaders Marks)) → Holds (AllLedTo T id) r → forget_leaders (listed_kept b B held id turn start (tell (rmap (kept_from id turn l₀) r) made)) ≡ listed_traced (work_machine b B) T (up_to room) (shows_in B) tt id es (rmap (beside_leaders m id) r)
   unfolding listed_kept listed_traced each_kept work_machine forget_leaders tell
   same (ok s f) (holds h) =
       forget_with (tabled turn l₀ s.leaders) (obind (eeach (emit_n b B held (entry_in id turn (tabled turn l₀ s.leaders)) 512 0) listed after) last)
-      ∙ ap (λ (o : Out (Traced Slices)). obind o last) (each_lists b B room (entry_in id turn (tabled turn l₀ s.leaders)) listed after ∙ ap (λ (why : ℕ → Entry). each_listed (work_machine b B) T (up_to room) (shows_in B) why listed after) (whys s.leaders h))
+      ∙ ap (λ (o : Out (Traced Slices) (Unit {0})). obind o last) (each_lists b B room (entry_in id turn (tabled turn l₀ s.leaders)) listed after ∙ ap (λ (why : ℕ → Entry). each_listed (work_machine b B) T (up_to room) (shows_in B) why listed after) (whys s.leaders h))
     where
       listed : List ℕ
       listed = slices_store.list (with_marks m s.state)
@@ -111,7 +111,7 @@ module _ (b : TypeTable) (B : Rules) (few : Few B) (room : ℕ) (m : Slices) (es
       after : Traced Slices
       after = record { mach = with_marks m s.state; entries = es }
 
-      last : Traced Slices → Out (Traced Slices)
+      last : Traced Slices → Out (Traced Slices) (Unit {0})
       last k = wrote (record { mach = (work_machine b B).start 0 k.mach; entries = k.entries })
   same (refused c) none = refl
 
@@ -141,7 +141,7 @@ module _ (b : TypeTable) (B : Rules) (few : Few B) (room : ℕ) (m : Slices) (es
   dumped_kept_lem =
       ap forget_leaders kept_is
       ∙ same (order_with_leaders work_store id 512 T [] began id false) (order_with_leaders_lem work_store T id 512 (marks_in m) false)
-      ∙ ap (listed_traced (work_machine b B) T (up_to room) (shows_in B) id es) (sym (lift_leaders m id 512 T [] began id false))
+      ∙ ap (listed_traced (work_machine b B) T (up_to room) (shows_in B) tt id es) (sym (lift_leaders m id 512 T [] began id false))
 
   pub kept_before : (k : Beside) → dumped_kept b B held unbounded (record { traced = start; leaders = l₀ }) id turn made ≡ wrote k → Before (turn + 1) k.leaders
   kept_before k e = later (order_with_leaders work_store id 512 T [] began id false) (order_with_leaders_lem work_store T id 512 (marks_in m) false) k (sym kept_is ∙ e)
@@ -154,11 +154,11 @@ module _ (b : TypeTable) (B : Rules) (room : ℕ) (lim : Limit) (m : Slices) (es
   abbrev first : Traced Slices
   first = record { mach = m; entries = es }
 
-  bare : (t : Told MarksAndLeaders) → forget_leaders (listed_kept b B none_held id turn first t) ≡ with_entries es (listed_out (work_machine b B) (table_of B) (beside_of m (tmap (λ (k : MarksAndLeaders). k.marks) t)))
+  bare : (t : Told MarksAndLeaders) → forget_leaders (listed_kept b B none_held id turn first t) ≡ with_entries es (listed_out (work_machine b B) (table_of B) tt (beside_of m (tmap (λ (k : MarksAndLeaders). k.marks) t)))
   unfolding listed_kept each_kept forget_leaders with_entries listed_out beside_of emit_in work_machine
   bare (told s strong j) =
       forget_with s.leaders (obind (eeach (emit_n b B none_held why 512 0) listed (record { mach = after; entries = es })) last)
-      ∙ ap (λ (o : Out (Traced Slices)). obind o last) (each_plain b B room why es listed after)
+      ∙ ap (λ (o : Out (Traced Slices) (Unit {0})). obind o last) (each_plain b B room why es listed after)
       ∙ then_plain b B room why es (eeach (emit_in b B 512 0) listed after) last (λ k. wrote ((work_machine b B).start 0 k)) (λ k. refl)
     where
       why : ℕ → Entry
@@ -170,7 +170,7 @@ module _ (b : TypeTable) (B : Rules) (room : ℕ) (lim : Limit) (m : Slices) (es
       listed : List ℕ
       listed = slices_store.list (with_marks m s.marks)
 
-      last : Traced Slices → Out (Traced Slices)
+      last : Traced Slices → Out (Traced Slices) (Unit {0})
       last k = wrote (record { mach = (work_machine b B).start 0 k.mach; entries = k.entries })
   bare (halted c j) = refl
 
@@ -179,7 +179,7 @@ module _ (b : TypeTable) (B : Rules) (room : ℕ) (lim : Limit) (m : Slices) (es
   unfolding dumped_kept ordered_kept dumped_metered
   dumped_bare =
       bare (order_kept lim (way_to id turn) 512 (table_of B) (record { marks = marks_in m; leaders = l₀ }) id false made)
-      ∙ ap (λ (t : Told Marks). with_entries es (listed_out (work_machine b B) (table_of B) (beside_of m t))) (sym (forget_kept lim (way_to id turn) 512 (table_of B) (record { marks = marks_in m; leaders = l₀ }) id false made))
+      ∙ ap (λ (t : Told Marks). with_entries es (listed_out (work_machine b B) (table_of B) tt (beside_of m t))) (sym (forget_kept lim (way_to id turn) 512 (table_of B) (record { marks = marks_in m; leaders = l₀ }) id false made))
 
 -- a table of a session has no more types than there are words
 past_record : (b : TypeTable) (s w : List ℕ) (x : ℕ) → b.types ≤ x → record_by_id b s w x ≡ void_record

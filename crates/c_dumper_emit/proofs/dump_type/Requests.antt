@@ -88,7 +88,7 @@ module _ (b : TypeTable) (s : List ℕ) (lent : Lent) (lim : Limit) (p : Pen) (t
   unfolding ordered_kept
   order_is = e
 
-  abbrev dumps : Beside → Out Beside
+  abbrev dumps : Beside → Out Beside (Unit {0})
   dumps m = dumped_kept b X lent lim m id turn made
 
   abbrev begun : Beside
@@ -98,9 +98,9 @@ module _ (b : TypeTable) (s : List ℕ) (lent : Lent) (lim : Limit) (p : Pen) (t
   unfolding dumped_kept
   dumped_is = ap (listed_kept b X lent id turn (traced_at 0 p tx w li)) (sym order_is)
 
-  run : (k : Beside → Out Beside) → obind (with_leaders l₀ (traced_out 0 (Ok p) tx w li)) k ≡ k begun
+  run : (k : Beside → Out Beside (Unit {0})) → obind (with_leaders l₀ (traced_out 0 (Ok p) tx w li)) k ≡ k begun
   unfolding obind with_leaders
-  run k = ap (λ (q : Out (Traced Slices)). obind (with_leaders l₀ q) k) (goes 0 p tx w li)
+  run k = ap (λ (q : Out (Traced Slices) (Unit {0})). obind (with_leaders l₀ q) k) (goes 0 p tx w li)
 
   pub dump_refused : (h : Halted) → r₁ ≡ Err h → with_leaders l₁ (traced_out 0 (Err h.refusal) tx w₁ li) ≡ obind (with_leaders l₀ (traced_out 0 (Ok p) tx w li)) dumps
   unfolding kept_out listed_kept with_leaders
@@ -111,29 +111,29 @@ module _ (b : TypeTable) (s : List ℕ) (lent : Lent) (lim : Limit) (p : Pen) (t
     table_is : btf_of b s w₁ ≡ X
     table_is = kept.called_stays lim b s w (kept_of (start made) w l₀) made o w₁ l₁ id 512 false (way_to id turn) (ap (λ (q : Result Order Halted). kept_out q w₁ l₁) (sym z) ∙ e)
 
-    last : Traced Slices → Out (Traced Slices)
+    last : Traced Slices → Out (Traced Slices) (Unit {0})
     last m = wrote (record { mach = (work_machine b X).start 0 m.mach; entries = m.entries })
 
     -- the list is empty again
     cleared_slices : (n : ℕ) (r : Penned) (t₂ w₂ l₂ w₃ : List ℕ) → w₃ ≡ emptied n w₂ → traced_out 0 r t₂ w₃ l₂ ≡ obind (traced_out n r t₂ w₂ l₂) last
     unfolding obind work_machine last
-    cleared_slices n (Ok q) t₂ w₂ l₂ w₃ ew = goes 0 q t₂ w₃ l₂ ∙ ap (λ (u : List ℕ). wrote (traced_at 0 q t₂ u l₂)) ew ∙ sym (ap (λ (u : Out (Traced Slices)). obind u last) (goes n q t₂ w₂ l₂))
-    cleared_slices n (Err c) t₂ w₂ l₂ w₃ ew = halts 0 c t₂ w₃ l₂ ∙ sym (ap (λ (u : Out (Traced Slices)). obind u last) (halts n c t₂ w₂ l₂))
+    cleared_slices n (Ok q) t₂ w₂ l₂ w₃ ew = goes 0 q t₂ w₃ l₂ ∙ ap (λ (u : List ℕ). wrote (traced_at 0 q t₂ u l₂)) ew ∙ sym (ap (λ (u : Out (Traced Slices) (Unit {0})). obind u last) (goes n q t₂ w₂ l₂))
+    cleared_slices n (Err c) t₂ w₂ l₂ w₃ ew = halts 0 c t₂ w₃ l₂ ∙ sym (ap (λ (u : Out (Traced Slices) (Unit {0})). obind u last) (halts n c t₂ w₂ l₂))
 
     pub dump_listed : (r : Penned) (t₂ w₂ l₂ : List ℕ) → traced_out o.len r t₂ w₂ l₂ ≡ obind (traced_out o.len (Ok p) tx w₁ li) (λ m. eeach (emit_n b (btf_of b s w₁) lent (entry_in id turn l₁) 512 0) (slices_store.list m.mach) m)
         → (w₃ : List ℕ) → w₃ ≡ emptied o.len w₂ → with_leaders l₁ (traced_out 0 r t₂ w₃ l₂) ≡ obind (with_leaders l₀ (traced_out 0 (Ok p) tx w li)) dumps
     unfolding obind kept_out listed_kept each_kept last
     dump_listed r t₂ w₂ l₂ e₂ w₃ e₃ =
         ap (with_leaders l₁) (cleared_slices o.len r t₂ w₂ l₂ w₃ e₃
-        ∙ ap (λ (q : Out (Traced Slices)). obind q last) (e₂ ∙ ap (λ (Q : Rules). obind (traced_out o.len (Ok p) tx w₁ li) (λ m. eeach (emit_n b Q lent (entry_in id turn l₁) 512 0) (slices_store.list m.mach) m)) table_is)
+        ∙ ap (λ (q : Out (Traced Slices) (Unit {0})). obind q last) (e₂ ∙ ap (λ (Q : Rules). obind (traced_out o.len (Ok p) tx w₁ li) (λ m. eeach (emit_n b Q lent (entry_in id turn l₁) 512 0) (slices_store.list m.mach) m)) table_is)
         ∙ obind_then (traced_out o.len (Ok p) tx w₁ li) each last)
-        ∙ ap (λ (q : Out (Traced Slices)). with_leaders l₁ (obind q all)) (goes o.len p tx w₁ li)
+        ∙ ap (λ (q : Out (Traced Slices) (Unit {0})). with_leaders l₁ (obind q all)) (goes o.len p tx w₁ li)
         ∙ sym (run dumps ∙ dumped_is ∙ ap (λ (q : Result Order Halted). listed_kept b X lent id turn (traced_at 0 p tx w li) (kept_out q w₁ l₁)) z)
       where
-        each : Traced Slices → Out (Traced Slices)
+        each : Traced Slices → Out (Traced Slices) (Unit {0})
         each m = eeach (emit_n b X lent (entry_in id turn l₁) 512 0) (slices_store.list m.mach) m
 
-        all : Traced Slices → Out (Traced Slices)
+        all : Traced Slices → Out (Traced Slices) (Unit {0})
         all m = obind (each m) last
 
 -- ---- without a list: the plain request, and under a ceiling the plain one or 22
@@ -151,9 +151,9 @@ module _ (b : TypeTable) (B : Rules) (m : Slices) (id made : ℕ) where
   abbrev plain_rule : Res Marks
   plain_rule = order work_store 512 (table_of B) (marks_in m) id false
 
-  tell_is : (t : Told Marks) (j : ℕ) → t ≡ tell plain_rule j → listed_out (work_machine b B) (table_of B) (beside_of m t) ≡ dumped (work_machine b B) (table_of B) m id
+  tell_is : (t : Told Marks) (j : ℕ) → t ≡ tell plain_rule j → listed_out (work_machine b B) (table_of B) tt (beside_of m t) ≡ dumped (work_machine b B) (table_of B) m id
   unfolding dumped work_machine
-  tell_is t j e = ap (listed_out (work_machine b B) (table_of B)) (ap (beside_of m) e ∙ beside_tell m plain_rule j ∙ sym (lift_order m.text m.at 512 (table_of B) (marks_in m) id false))
+  tell_is t j e = ap (listed_out (work_machine b B) (table_of B) tt) (ap (beside_of m) e ∙ beside_tell m plain_rule j ∙ sym (lift_order m.text m.at 512 (table_of B) (marks_in m) id false))
 
   -- nothing is counted
   pub plain_is : dumped_metered b B unbounded m id made ≡ dumped (work_machine b B) (table_of B) m id
@@ -193,9 +193,9 @@ module _ (b : TypeTable) (s : List ℕ) (m : Slices) (z : m.len ≡ 0) (id c mad
   fits_is l = tell_is b (btf_of b s m.work) m id made (ordered_in (btf_of b s m.work) (most c) (marks_in m) id made) (made + opens)
       (subst (λ (k : Marks). ordered_in (btf_of b s m.work) (most c) k id made ≡ tell (order work_store 512 (table_in b s m.work) k id false) (made + opens)) (sym begins) (rule_fits l))
 
-  pub over_is : made ≤ c → c < made + opens → dumped_metered b (btf_of b s m.work) (most c) m id made ≡ stuck 22
+  pub over_is : made ≤ c → c < made + opens → dumped_metered b (btf_of b s m.work) (most c) m id made ≡ stuck tt 22
   unfolding dumped_metered beside_of listed_out
-  over_is k l = ap (λ (t : Told Marks). listed_out (work_machine b (btf_of b s m.work)) (table_in b s m.work) (beside_of m t)) (ap (λ (n : Marks). ordered_in (btf_of b s m.work) (most c) n id made) begins ∙ rule_over k l)
+  over_is k l = ap (λ (t : Told Marks). listed_out (work_machine b (btf_of b s m.work)) (table_in b s m.work) tt (beside_of m t)) (ap (λ (n : Marks). ordered_in (btf_of b s m.work) (most c) n id made) begins ∙ rule_over k l)
 
 -- ---- is_idle
 module _ (b : TypeTable) (s : List ℕ) (t : Record) where
@@ -255,19 +255,19 @@ module _ (b : TypeTable) (s : List ℕ) (w : List ℕ) (id : ℕ) (m : CodeMark)
 
 -- A request for an idle id leaves the text and the work as they were.
 module _ (b : TypeTable) (B : Rules) (at : ℕ) (tx w : List ℕ) (id : ℕ) where
-  quiet : (f : Bool) → listed_out (work_machine b B) (table_of B) (ok (slices 0 at tx w) f) ≡ wrote (slices 0 at tx w)
+  quiet : (f : Bool) → listed_out (work_machine b B) (table_of B) tt (ok (slices 0 at tx w) f) ≡ wrote (slices 0 at tx w)
   unfolding listed_out work_machine slices_store work_store from eeach obind emptied
   quiet f = refl
 
   idle_visit : (n : ℕ) (d : Mark) → is_idle d ((table_of B).node id) ≡ true
-      → listed_out (work_machine b B) (table_of B) (visit slices_store (table_of B) (λ s' y f. order slices_store n (table_of B) s' y f) (slices 0 at tx w) id false d) ≡ wrote (slices 0 at tx w)
+      → listed_out (work_machine b B) (table_of B) tt (visit slices_store (table_of B) (λ s' y f. order slices_store n (table_of B) s' y f) (slices 0 at tx w) id false d) ≡ wrote (slices 0 at tx w)
   unfolding visit is_idle fresh is_ignored
   idle_visit n new e = go ((table_of B).node id) e
     where
       yes_no : false ≡ true → ⊥
       yes_no q = let z : ◌≡◌ {A = ℕ} 0 1 = cc in omega arith
 
-      go : (nd : Node) → is_ignored nd ≡ true → listed_out (work_machine b B) (table_of B) (fresh slices_store (table_of B) (λ s' y f. order slices_store n (table_of B) s' y f) (slices 0 at tx w) id false nd) ≡ wrote (slices 0 at tx w)
+      go : (nd : Node) → is_ignored nd ≡ true → listed_out (work_machine b B) (table_of B) tt (fresh slices_store (table_of B) (λ s' y f. order slices_store n (table_of B) s' y f) (slices 0 at tx w) id false nd) ≡ wrote (slices 0 at tx w)
       go ignored q = quiet false
       go plain q = absurd (yes_no q)
       go (listed f) q = absurd (yes_no q)
@@ -279,7 +279,7 @@ module _ (b : TypeTable) (B : Rules) (at : ℕ) (tx w : List ℕ) (id : ℕ) whe
   idle_visit n busy e = absurd (let z : ◌≡◌ {A = ℕ} 0 1 = cc in omega arith)
   idle_visit n done e = quiet true
 
-  idle_order : (n : ℕ) → is_idle (mark_of (get_field w id 1)) ((table_of B).node id) ≡ true → listed_out (work_machine b B) (table_of B) (order slices_store (suc n) (table_of B) (slices 0 at tx w) id false) ≡ wrote (slices 0 at tx w)
+  idle_order : (n : ℕ) → is_idle (mark_of (get_field w id 1)) ((table_of B).node id) ≡ true → listed_out (work_machine b B) (table_of B) tt (order slices_store (suc n) (table_of B) (slices 0 at tx w) id false) ≡ wrote (slices 0 at tx w)
   unfolding order slices_store work_store
   idle_order n e = idle_visit n (mark_of (get_field w id 1)) e
 
@@ -289,20 +289,20 @@ module _ (b : TypeTable) (B : Rules) (at : ℕ) (tx w : List ℕ) (id : ℕ) whe
 
 -- ---- a request of the theory's session (`single` of the rules): its machine, with the list emptied, is what `dumped` leaves, or its number
 -- is the refusal
-module _ {M : Type 0} (X : Machine M) (T : Table) (S : Sess M) (x : ℕ) where
-  pub ordered_out : (r : Res M) → ((listed_out X T r ≡ wrote (X.start 0 (ordered X T S x r).sess.mach)) × ((ordered X T S x r).number ≡ 0)) ⊎ (listed_out X T r ≡ stuck (ordered X T S x r).number)
+module _ {M H : Type 0} (X : Machine M H) (T : Table) (S : Sess M) (x : ℕ) where
+  pub ordered_out : (h : H) (r : Res M) → ((listed_out X T h r ≡ wrote (X.start 0 (ordered X T S x r).sess.mach)) × ((ordered X T S x r).number ≡ 0)) ⊎ ((m : H) × (listed_out X T h r ≡ stuck m (ordered X T S x r).number))
   unfolding listed_out ordered shut obind emitted
-  ordered_out (ok s f) = go (eeach (λ m y. emit X T 512 m y 0) (X.store.list s) s)
+  ordered_out h (ok s f) = go (eeach (λ m y. emit X T 512 m y 0) (X.store.list s) s)
     where
-      go : (o : Out M) → ((obind o (λ m. wrote (X.start 0 m)) ≡ wrote (X.start 0 (emitted X T S x o).sess.mach)) × ((emitted X T S x o).number ≡ 0)) ⊎ (obind o (λ m. wrote (X.start 0 m)) ≡ stuck (emitted X T S x o).number)
+      go : (o : Out M H) → ((obind o (λ m. wrote (X.start 0 m)) ≡ wrote (X.start 0 (emitted X T S x o).sess.mach)) × ((emitted X T S x o).number ≡ 0)) ⊎ ((m : H) × (obind o (λ m. wrote (X.start 0 m)) ≡ stuck m (emitted X T S x o).number))
       go (wrote m) = inl (refl, refl)
-      go (stuck c) = inr refl
-  ordered_out (refused c) = inr refl
+      go (stuck m c) = inr (m, refl)
+  ordered_out h (refused c) = inr (h, refl)
 
   pub single_out : (room : ℕ) → S.is_open ≡ true → ltb x T.count ≡ true
-      → ((dumped X T (X.start room S.mach) x ≡ wrote (X.start 0 (single X T room S x).sess.mach)) × ((single X T room S x).number ≡ 0)) ⊎ (dumped X T (X.start room S.mach) x ≡ stuck (single X T room S x).number)
+      → ((dumped X T (X.start room S.mach) x ≡ wrote (X.start 0 (single X T room S x).sess.mach)) × ((single X T room S x).number ≡ 0)) ⊎ ((m : H) × (dumped X T (X.start room S.mach) x ≡ stuck m (single X T room S x).number))
   unfolding dumped single gate
   single_out room e l =
-      subst (λ (a : Answer M). ((dumped X T (X.start room S.mach) x ≡ wrote (X.start 0 a.sess.mach)) × (a.number ≡ 0)) ⊎ (dumped X T (X.start room S.mach) x ≡ stuck a.number))
+      subst (λ (a : Answer M). ((dumped X T (X.start room S.mach) x ≡ wrote (X.start 0 a.sess.mach)) × (a.number ≡ 0)) ⊎ ((m : H) × (dumped X T (X.start room S.mach) x ≡ stuck m a.number)))
       (sym (ap (λ (f : Bool). gate X T room S x f (ltb x T.count)) e ∙ ap (gate X T room S x true) l))
-      (ordered_out (ordering X T room S x))
+      (ordered_out (X.held (X.start room S.mach)) (ordering X T room S x))

@@ -51,7 +51,7 @@ module _ (b : TypeTable) (s : List ℕ) (lent : Lent) (why : ℕ → Entry) (w�
 
 -- ---- emit_entries
 module _ (b : TypeTable) (s : List ℕ) (lent : Lent) (why : ℕ → Entry) (w₀ : List ℕ) (left cont : ℕ) (h : Held) (n : ℕ) (p₀ : Pen) (tx₀ l₀ : List ℕ) where
-  abbrev Entered : Out (Traced Slices) → Type 0
+  abbrev Entered : Out (Traced Slices) (Unit {0}) → Type 0
   Entered x = x ≡ obind (traced_out n (Ok p₀) tx₀ w₀ l₀) (λ m. eeach (emit_n b (btf_of b s w₀) lent why left cont) (entry_ids b s h) m)
 
   pub entries_end : (p : Pen) (tx w li : List ℕ) (k : ℕ) → Rest b s lent why w₀ left cont (entry_type b s h) n p₀ tx₀ l₀ (count_of h) (Ok p) tx w li k → (c : ℕ) → c ≡ count_of h → c ≤ k → Entered (traced_out n (Ok p) tx w li)

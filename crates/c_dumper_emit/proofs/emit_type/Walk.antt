@@ -30,17 +30,17 @@ use Rattle.c_dumper_emit.proofs.entries.Laws.{Penned, with_n, obind_then, obind_
 use Rattle.c_dumper_emit.proofs.entries.Walk.{once_fwd, once_alias, zero_is}
 
 -- ---- emit_new
-module _ (b : TypeTable) (s : List ℕ) (lent : Lent) (why : ℕ → Entry) (n : ℕ) (p : Pen) (tx w li : List ℕ) (id cont left : ℕ) (t : Record) (et : t ≡ record_by_id b s w id) (nd : Code) (en : node_is b s nd ≡ node_of (type_of b s t)) (x : Out (Traced Slices)) where
+module _ (b : TypeTable) (s : List ℕ) (lent : Lent) (why : ℕ → Entry) (n : ℕ) (p : Pen) (tx w li : List ℕ) (id cont left : ℕ) (t : Record) (et : t ≡ record_by_id b s w id) (nd : Code) (en : node_is b s nd ≡ node_of (type_of b s t)) (x : Out (Traced Slices) (Unit {0})) where
   abbrev Bn : Rules
   Bn = btf_of b s w
 
-  abbrev rec : Traced Slices → ℕ → ℕ → Out (Traced Slices)
+  abbrev rec : Traced Slices → ℕ → ℕ → Out (Traced Slices) (Unit {0})
   rec m' y c = emit_n b Bn lent why left c m' y
 
   abbrev Goal : Type 0
   Goal = x ≡ obind (traced_out n (Ok p) tx w li) (λ m. new_n b Bn lent why left cont m id)
 
-  by_node : (c : Code) → nd ≡ c → (k : Traced Slices → Out (Traced Slices)) → x ≡ obind (traced_out n (Ok p) tx w li) k
+  by_node : (c : Code) → nd ≡ c → (k : Traced Slices → Out (Traced Slices) (Unit {0})) → x ≡ obind (traced_out n (Ok p) tx w li) k
       → ((m : Traced Slices) → k m ≡ begin (mach_n b Bn lent why cont) (table_of Bn) rec m id cont (is_zero cont) (node_is b s c)) → Goal
   unfolding new_n
   by_node c e k ex h = ex ∙ obind_same (traced_out n (Ok p) tx w li) k (λ m. new_n b Bn lent why left cont m id)
@@ -84,14 +84,14 @@ module _ (b : TypeTable) (s : List ℕ) (lent : Lent) (why : ℕ → Entry) (n :
   new_typedef y e w₁ e₁ a t₂ w₂ l₂ e₂ lent₂ er ex =
       by_node (code.Typedef y) e (λ m. obind (rec (with_n m (put_field m.mach.work id 13 1)) y id) rest)
       (end₃
-      ∙ ap (λ (o : Out (Traced Slices)). obind o rest) call₂
+      ∙ ap (λ (o : Out (Traced Slices) (Unit {0})). obind o rest) call₂
       ∙ obind_then (traced_out n (Ok p) tx w₁ li) (λ m. emit_n b Bn lent why left id m y) rest
       ∙ work_slices n (Ok p) tx w li (λ u. put_field u id 13 1) w₁ (λ m. obind (emit_n b Bn lent why left id m y) rest) e₁)
       (λ m. obind_same (rec (with_n m (put_field m.mach.work id 13 1)) y id) rest _
-      (λ m'. ap (λ (o : Out (Traced Slices)). obind o (λ m''. wrote (with_n m'' (put_field m''.mach.work id 13 2))))
+      (λ m'. ap (λ (o : Out (Traced Slices) (Unit {0})). obind o (λ m''. wrote (with_n m'' (put_field m''.mach.work id 13 2))))
       (once_alias b Bn lent why cont (type_of b s t) (cause_at 3 (why id) id cont) m' id refl ((mach_n b Bn lent why cont).has_fwd m' id) (sym (type_at b s w id t et)))))
     where
-      rest : Traced Slices → Out (Traced Slices)
+      rest : Traced Slices → Out (Traced Slices) (Unit {0})
       rest m' = typedef_n b Bn lent (type_of b s t) (cause_at 3 (why id) id cont) m' id
 
       same₁ : btf_of b s w₁ ≡ Bn
@@ -106,7 +106,7 @@ module _ (b : TypeTable) (s : List ℕ) (lent : Lent) (why : ℕ → Entry) (n :
           ∙ ap (λ (Q : Rules). obind (traced_out n a t₂ w₂ l₂) (λ m. typedef_n b Q lent (type_of b s t) (cause_at 3 (why id) id cont) m id)) same₁
 
 -- ---- emit_composite
-pub composite_entries : (b : TypeTable) (s : List ℕ) (B : Rules) (lent : Lent) (why : ℕ → Entry) (left cont id : ℕ) (o x : Out (Traced Slices)) (es es' : Entries) → es ≡ es'
+pub composite_entries : (b : TypeTable) (s : List ℕ) (B : Rules) (lent : Lent) (why : ℕ → Entry) (left cont id : ℕ) (o x : Out (Traced Slices) (Unit {0})) (es es' : Entries) → es ≡ es'
     → x ≡ obind o (λ m. composite_n b B lent why left cont (member_ids b s es) m id) → x ≡ obind o (λ m. composite_n b B lent why left cont (member_ids b s es') m id)
 composite_entries b s B lent why left cont id o x es es' e ex = ex ∙ ap (λ (y : Entries). obind o (λ m. composite_n b B lent why left cont (member_ids b s y) m id)) e
 
@@ -114,10 +114,10 @@ module _ (b : TypeTable) (s : List ℕ) (lent : Lent) (why : ℕ → Entry) (n :
   abbrev Bc : Rules
   Bc = btf_of b s w
 
-  abbrev recc : Traced Slices → ℕ → ℕ → Out (Traced Slices)
+  abbrev recc : Traced Slices → ℕ → ℕ → Out (Traced Slices) (Unit {0})
   recc m' y c = emit_n b Bc lent why left c m' y
 
-  abbrev Composed : Traced Slices → Out (Traced Slices)
+  abbrev Composed : Traced Slices → Out (Traced Slices) (Unit {0})
   Composed m = composite_n b Bc lent why left cont ms m id
 
   -- the clause, by its tests
@@ -137,10 +137,10 @@ module _ (b : TypeTable) (s : List ℕ) (lent : Lent) (why : ℕ → Entry) (n :
   within_is true false e = refl
   within_is false f e = absurd (true≢false (sym e))
 
-  pub composite_mention : (nm && not (eqb cont 0)) ≡ true → (x : Out (Traced Slices)) → x ≡ obind (traced_out n (Ok p) tx w li) (λ m. mentioned_n b Bc lent (type_of b s t) cont m id) → x ≡ obind (traced_out n (Ok p) tx w li) Composed
+  pub composite_mention : (nm && not (eqb cont 0)) ≡ true → (x : Out (Traced Slices) (Unit {0})) → x ≡ obind (traced_out n (Ok p) tx w li) (λ m. mentioned_n b Bc lent (type_of b s t) cont m id) → x ≡ obind (traced_out n (Ok p) tx w li) Composed
   unfolding within close mention_n mentioned_n has_n work_machine
   composite_mention z x ex = ex ∙ obind_same (traced_out n (Ok p) tx w li) (λ m. mentioned_n b Bc lent (type_of b s t) cont m id) Composed
-      (λ m. ap (λ (o : Out (Traced Slices)). obind o (λ m'. wrote (with_n m' (put_field m'.mach.work id 13 0))))
+      (λ m. ap (λ (o : Out (Traced Slices) (Unit {0})). obind o (λ m'. wrote (with_n m' (put_field m'.mach.work id 13 0))))
       (once_fwd b Bc lent why cont (type_of b s t) (with_n m (put_field m.mach.work id 13 1)) id (not (eqb (get_field (put_field m.mach.work id 13 1) id 3) 0) || eqb id cont) (sym (type_at b s w id t et))
       ∙ ap (λ (v : ℕ). once (mach_n b Bc lent why cont) (table_of Bc) (mach_n b Bc lent why cont).fwd_line id (not (eqb v 0) || eqb id cont) (with_n m (put_field m.mach.work id 13 1))) (field_other m.mach.work id 13 1 id 3 (omega arith) (omega arith) (λ q. omega arith)))
       ∙ begun false true (zero_is cont ∙ within_is nm (eqb cont 0) z) (both nm (eqb cont 0) z) m)
@@ -159,7 +159,7 @@ module _ (b : TypeTable) (s : List ℕ) (lent : Lent) (why : ℕ → Entry) (n :
         (stays_then (btf_of b s) w₁ (traced_out n (Ok p) tx w₁ li) (λ m. eeach (emit_n b (btf_of b s w₁) lent why left c) ms m) (entry_stays b s (btf_of b s) n p tx w₁ li) (λ m. table_each b s (btf_of b s w₁) lent why left c ms m))
 
     -- the members within c, and what ends the composite
-    abbrev then_ends : ℕ → Bool → BtfType → Traced Slices → Out (Traced Slices)
+    abbrev then_ends : ℕ → Bool → BtfType → Traced Slices → Out (Traced Slices) (Unit {0})
     then_ends c f y m = obind (eeach (emit_n b Bc lent why left c) ms (with_n m (put_field m.mach.work id 13 1))) (λ m'. ended_n b Bc lent f y (why id) m' id)
 
     nameless : (v : Bool) → (v && true) ≡ false → v ≡ false
@@ -172,12 +172,12 @@ module _ (b : TypeTable) (s : List ℕ) (lent : Lent) (why : ℕ → Entry) (n :
     ended_is false z h m = ap (λ (v : Bool). then_ends (pick v id cont) false (type_of b s t) m) (nameless nm h) ∙ begun false false (zero_is cont ∙ z) (nameless nm h) m
 
     pub composite_ends : (c₀ : ℕ) → c₀ ≡ pick nm id cont → (a : Penned) (t₂ w₂ l₂ : List ℕ) → traced_out n a t₂ w₂ l₂ ≡ obind (traced_out n (Ok p) tx w₁ li) (λ m. eeach (emit_n b (btf_of b s w₁) lent why left c₀) ms m)
-        → (lent₂ : Lent) → lent₂ ≡ lent → (x : Out (Traced Slices)) → x ≡ obind (traced_out n a t₂ w₂ l₂) (λ m. ended_n b (btf_of b s w₂) lent₂ (eqb cont 0) (type_of b s t) (why id) m id) → x ≡ obind (traced_out n (Ok p) tx w li) Composed
+        → (lent₂ : Lent) → lent₂ ≡ lent → (x : Out (Traced Slices) (Unit {0})) → x ≡ obind (traced_out n a t₂ w₂ l₂) (λ m. ended_n b (btf_of b s w₂) lent₂ (eqb cont 0) (type_of b s t) (why id) m id) → x ≡ obind (traced_out n (Ok p) tx w li) Composed
     composite_ends c₀ ec a t₂ w₂ l₂ e₂ lent₂ er x ex =
         ex ∙ ap (λ (r : Lent). obind (traced_out n a t₂ w₂ l₂) (λ m. ended_n b (btf_of b s w₂) r (eqb cont 0) (type_of b s t) (why id) m id)) er
         ∙ same_table b s n a t₂ w₂ l₂ w₁ (λ Q m. ended_n b Q lent (eqb cont 0) (type_of b s t) (why id) m id) (members_stay c₀ a t₂ w₂ l₂ e₂)
         ∙ ap (λ (Q : Rules). obind (traced_out n a t₂ w₂ l₂) (λ m. ended_n b Q lent (eqb cont 0) (type_of b s t) (why id) m id)) same₁
-        ∙ ap (λ (o : Out (Traced Slices)). obind o (λ m. ended_n b Bc lent (eqb cont 0) (type_of b s t) (why id) m id)) (members_call c₀ a t₂ w₂ l₂ e₂)
+        ∙ ap (λ (o : Out (Traced Slices) (Unit {0})). obind o (λ m. ended_n b Bc lent (eqb cont 0) (type_of b s t) (why id) m id)) (members_call c₀ a t₂ w₂ l₂ e₂)
         ∙ obind_then (traced_out n (Ok p) tx w li) (λ m. eeach (emit_n b Bc lent why left c₀) ms (with_n m (put_field m.mach.work id 13 1))) (λ m. ended_n b Bc lent (eqb cont 0) (type_of b s t) (why id) m id)
         ∙ obind_same (traced_out n (Ok p) tx w li) (λ m. then_ends c₀ (eqb cont 0) (type_of b s t) m) Composed
         (λ m. ap (λ (i : ℕ). then_ends i (eqb cont 0) (type_of b s t) m) ec ∙ ended_is (eqb cont 0) refl g m)

@@ -1,6 +1,6 @@
 -- What emission with entries leaves alone: whatever reads neither emission's marks and flags nor the names. Assumes nothing.
 use Prim.Native.Nat.{ℕ, zero, suc, ◌+◌, ◌-◌, ◌*◌, ◌<◌}
-use mathlib.Core.Path.{◌≡◌, refl, ◌∙◌, sym}
+use mathlib.Core.Path.{◌≡◌, refl, ◌∙◌, sym, subst}
 use mathlib.Core.List.{List, [], ◌∷◌, ◌++◌}
 use mathlib.Core.Bool.{Bool, true, false, not, ◌&&◌, ◌||◌}
 use mathlib.Core.Logic.{⊎_elim, ◌≢◌}
@@ -14,8 +14,8 @@ use Rattle.spec_c_dumper.specs.rules.Order.{Node, ignored, plain, listed, throug
 use Rattle.spec_c_dumper.specs.rules.Machine.{Out, wrote, stuck, Machine, is_zero, pick, obind, eeach, once, mention, again, close, leaf, within, begin, allowed, look}
 use Rattle.spec_c_dumper.specs.rules.Types.{Name, Btf as Rules, table_of}
 use Rattle.spec_c_dumper.specs.rules.Names.{Space, Resolved}
-use Rattle.spec_c_dumper.specs.rules.Writer.{Said, said, said_names, Writer}
-use Rattle.spec_c_dumper.specs.rules.Place.{with_names, put_said}
+use Rattle.spec_c_dumper.specs.rules.Writer.{said_text, said_names, Writer}
+use Rattle.spec_c_dumper.specs.rules.Place.{with_names, none_held}
 use Rattle.spec_c_dumper.specs.alignment_once.Writers.{definition_once, forward_once}
 use Rattle.btf_layout.specs.asked.Asked.{work_asks}
 use Rattle.spec_c_dumper.proofs.rules.Keeps.{Keeps}
@@ -27,50 +27,48 @@ use Rattle.spec_type_table.specs.Table.{btf_of, work_naming, type_version_in, va
 use Rattle.spec_type_table.proofs.Laws.{place_type, place_enum}
 use Rattle.spec_type_table.proofs.Frame.{field_other, table_field, table_type_version, table_value_version, counted_other}
 use Rattle.c_dumper_dependency_order.specs.order_state.Work.{code}
+use Rattle.spec_session.proofs.emission.Laws.{line_is}
 use Rattle.spec_session.specs.emission.Slices.{Slices, slices_of, line_in, work_machine}
 use Rattle.spec_c_dumper.specs.origins.Causes.{Entry, entry, Traced, with_entries, up_to, line, cause_at, shows_in}
 use Rattle.spec_session.proofs.emission.Frame.{table_emark, places}
 use Rattle.c_dumper_emit.specs.entries.Traced.{Lent, mach_n, emit_n}
 
 module _ {X : Type 0} (P : List ℕ → X) where
-  pub data Stays (w : List ℕ) : Out (Traced Slices) → Type 0 where
+  pub data Stays (w : List ℕ) : Out (Traced Slices) (Unit {0}) → Type 0 where
     on : {m : Traced Slices} → P m.mach.work ≡ P w → Stays w (wrote m)
-    off : {c : ℕ} → Stays w (stuck c)
+    off : {h : Unit {0}} {c : ℕ} → Stays w (stuck h c)
 
-  pub stays_from : (w w' : List ℕ) (o : Out (Traced Slices)) → P w' ≡ P w → Stays w' o → Stays w o
+  pub stays_from : (w w' : List ℕ) (o : Out (Traced Slices) (Unit {0})) → P w' ≡ P w → Stays w' o → Stays w o
   stays_from w w' (wrote m) e (on f) = on (f ∙ e)
-  stays_from w w' (stuck c) e off = off
+  stays_from w w' (stuck h c) e off = off
 
-  pub stays_then : (w : List ℕ) (o : Out (Traced Slices)) (k : Traced Slices → Out (Traced Slices)) → Stays w o → ((m : Traced Slices) → Stays m.mach.work (k m)) → Stays w (obind o k)
+  pub stays_then : (w : List ℕ) (o : Out (Traced Slices) (Unit {0})) (k : Traced Slices → Out (Traced Slices) (Unit {0})) → Stays w o → ((m : Traced Slices) → Stays m.mach.work (k m)) → Stays w (obind o k)
   unfolding obind
   stays_then w (wrote m) k (on e) h = stays_from w m.mach.work (k m) e (h m)
-  stays_then w (stuck c) k off h = off
+  stays_then w (stuck m c) k off h = off
 
   module _ (b : TypeTable) (marks : (w : List ℕ) (x v : ℕ) → P (put_field w x 13 v) ≡ P w) (flags : (w : List ℕ) (x v : ℕ) → P (put_field w x 3 v) ≡ P w)
       (count : (w : List ℕ) (v : ℕ) → P (put_field w 0 2 v) ≡ P w) (aligns : (w : List ℕ) (x v : ℕ) → P (put_field w x 15 v) ≡ P w)
       (types : (space : Space) (id : ℕ) (name : Name) (w : List ℕ) → P ((work_naming b).type_version space id name w).names ≡ P w)
       (values : (id i : ℕ) (name : Name) (w : List ℕ) → P ((work_naming b).value_version id i name w).names ≡ P w) (B : Rules) (lent : Lent) (why : ℕ → Entry) where
     stays_said : (v : Writer (List ℕ)) → Keeps P v → (es : List Entry) (m : Slices) → Stays m.work (with_entries es (line_in v m))
-    unfolding line_in slices_of put_said with_names said_names with_entries
-    stays_said v h es m = go (v m.work) (h m.work)
+    unfolding slices_of with_names with_entries
+    stays_said v h es m = subst (λ (o : Out Slices (Unit {0})). Stays m.work (with_entries es o)) (sym (line_is v m)) (inner (said_names (v m.work)) (h m.work).0 (put_text m.text (Ok m.at) (said_text (v m.work))))
       where
-        inner : (u : List ℕ) → P u ≡ P m.work → (o : TextOut) → Stays m.work (with_entries es (slices_of m.len (with_names u o)))
+        inner : (u : List ℕ) → P u ≡ P m.work → (o : TextOut) → Stays m.work (with_entries es (slices_of m.len (with_names none_held u o)))
         inner u e (lies t at) = on e
         inner u e (stopped c) = off
 
-        go : (s : Said (List ℕ)) → P (said_names s) ≡ P m.work → Stays m.work (with_entries es (slices_of m.len (put_said m.text (Ok m.at) s)))
-        go (said u x) e = inner u e (put_text m.text (Ok m.at) x)
-
-    stays_line : (shown : Bool) (e : Entry) (v : Writer (List ℕ)) → Keeps P v → (m : Traced Slices) → Stays m.mach.work (line (up_to lent.room) shown e (λ k. line_in v k) m)
+    stays_line : (shown : Bool) (e : Entry) (v : Writer (List ℕ)) → Keeps P v → (m : Traced Slices) → Stays m.mach.work (line (λ k. tt) (up_to lent.room) shown e (λ k. line_in v k) m)
     unfolding line
     stays_line false e v h m = stays_said v h m.entries m.mach
     stays_line true e v h m = go (ltb (length m.entries) lent.room)
       where
-        go : (t : Bool) → Stays m.mach.work (elim t as (λ z. Out (Traced Slices)) [ true ↦ with_entries (m.entries ++ (e ∷ [])) (line_in v m.mach) | false ↦ stuck 17 ])
+        go : (t : Bool) → Stays m.mach.work (elim t as (λ z. Out (Traced Slices) (Unit {0})) [ true ↦ with_entries (m.entries ++ (e ∷ [])) (line_in v m.mach) | false ↦ stuck tt 17 ])
         go true = stays_said v h (m.entries ++ (e ∷ [])) m.mach
         go false = off
 
-    abbrev N : ℕ → Machine (Traced Slices)
+    abbrev N : ℕ → Machine (Traced Slices) (Unit {0})
     N cont = mach_n b B lent why cont
 
     stays_emark : (cont : ℕ) (k : Mark) (x : ℕ) (m : Traced Slices) → P ((N cont).emark k x m).mach.work ≡ P m.mach.work
@@ -97,12 +95,12 @@ module _ {X : Type 0} (P : List ℕ → X) where
     unfolding work_machine
     stays_body cont m x = stays_line (lent.lists && true) (why x) (definition_once (work_asks b.types B) (work_naming b) B x (B.type_by_id x)) (definition_keeps P count aligns b B types values x (B.type_by_id x)) m
 
-    stays_eeach : (f : Traced Slices → ℕ → Out (Traced Slices)) → ((m : Traced Slices) (y : ℕ) → Stays m.mach.work (f m y)) → (ys : List ℕ) (m : Traced Slices) → Stays m.mach.work (eeach f ys m)
+    stays_eeach : (f : Traced Slices → ℕ → Out (Traced Slices) (Unit {0})) → ((m : Traced Slices) (y : ℕ) → Stays m.mach.work (f m y)) → (ys : List ℕ) (m : Traced Slices) → Stays m.mach.work (eeach f ys m)
     unfolding eeach
     stays_eeach f h [] m = on refl
     stays_eeach f h (y ∷ ys) m = stays_then m.mach.work (f m y) (eeach f ys) (h m y) (λ m'. stays_eeach f h ys m')
 
-    stays_once : (cont : ℕ) (f : Traced Slices → ℕ → Out (Traced Slices)) → ((m : Traced Slices) (y : ℕ) → Stays m.mach.work (f m y)) → (x : ℕ) (had : Bool) (m : Traced Slices) → Stays m.mach.work (once (N cont) (table_of B) f x had m)
+    stays_once : (cont : ℕ) (f : Traced Slices → ℕ → Out (Traced Slices) (Unit {0})) → ((m : Traced Slices) (y : ℕ) → Stays m.mach.work (f m y)) → (x : ℕ) (had : Bool) (m : Traced Slices) → Stays m.mach.work (once (N cont) (table_of B) f x had m)
     unfolding once
     stays_once cont f h x true m = on refl
     stays_once cont f h x false m = stays_then m.mach.work (f m x) (λ m'. wrote ((N cont).forwarded x m')) (h m x) (λ m'. on (stays_flag cont x m'))
@@ -134,7 +132,7 @@ module _ {X : Type 0} (P : List ℕ → X) where
     stays_leaf cont true x m = stays_then m.mach.work ((N cont).leaf_line m x) (λ m'. wrote ((N cont).emark done x m')) (stays_leaf_line cont m x) (λ m'. on (stays_emark cont done x m'))
     stays_leaf cont false x m = on (stays_emark cont done x m)
 
-    module _ (rec : Traced Slices → ℕ → ℕ → Out (Traced Slices)) (h : (m : Traced Slices) (y c : ℕ) → Stays m.mach.work (rec m y c)) (m : Traced Slices) (x cont : ℕ) where
+    module _ (rec : Traced Slices → ℕ → ℕ → Out (Traced Slices) (Unit {0})) (h : (m : Traced Slices) (y c : ℕ) → Stays m.mach.work (rec m y c)) (m : Traced Slices) (x cont : ℕ) where
       stays_within : (all nm : Bool) (ms : List ℕ) → Stays m.mach.work (within (N cont) (table_of B) rec m x cont all nm ms)
       unfolding within
       stays_within true nm ms =
@@ -225,7 +223,7 @@ places_names b space id name w = go (eqb (get_field w id 4) 0)
     u : List ℕ
     u = count_raised (class_p b.types) (count_p b.types) w id
 
-    go : (t : Bool) → places (elim t as (λ z. Resolved (List ℕ)) [ false ↦ record { version = get_field w id 4; names = w } | true ↦ record { version = n; names = put_field u id 4 n } ]).names ≡ places w
+    go : (t : Bool) → places (elim t as (λ z. Resolved (List ℕ)) [ false ↦ record { passes = false; version = get_field w id 4; names = w } | true ↦ record { passes = false; version = n; names = put_field u id 4 n } ]).names ≡ places w
     go false = refl
     go true = places_field 4 (omega arith) (λ e. omega arith) u id n ∙ places_counted b.types w id
 
@@ -239,7 +237,7 @@ places_values b id i name w = go (ltb (b.types + enumerator_of w id i) 429496729
     u : List ℕ
     u = count_raised (class_p b.types) (count_p b.types) w (b.types + enumerator_of w id i)
 
-    go : (t : Bool) → places (elim t as (λ z. Resolved (List ℕ)) [ true ↦ record { version = n; names = u } | false ↦ record { version = 0; names = w } ]).names ≡ places w
+    go : (t : Bool) → places (elim t as (λ z. Resolved (List ℕ)) [ true ↦ record { passes = false; version = n; names = u } | false ↦ record { passes = false; version = 0; names = w } ]).names ≡ places w
     go false = refl
     go true = places_counted b.types w (b.types + enumerator_of w id i)
 

@@ -158,44 +158,44 @@ pub goes : (n : ℕ) (p : Pen) (t w l : List ℕ) → traced_out n (Ok p) t w l 
 unfolding traced_out with_entries
 goes n p t w l = ap (with_entries (entries_of p.count l)) (plainly.goes n p.at t w)
 
-pub halts : (n : ℕ) (c : Refusal) (t w l : List ℕ) → traced_out n (Err c) t w l ≡ stuck (refusal_number c)
+pub halts : (n : ℕ) (c : Refusal) (t w l : List ℕ) → traced_out n (Err c) t w l ≡ stuck tt (refusal_number c)
 unfolding traced_out
 halts n c t w l = refl
 
 -- ---- obind
-pub obind_then : (o : Out (Traced Slices)) (k k' : Traced Slices → Out (Traced Slices)) → obind (obind o k) k' ≡ obind o (λ m. obind (k m) k')
+pub obind_then : (o : Out (Traced Slices) (Unit {0})) (k k' : Traced Slices → Out (Traced Slices) (Unit {0})) → obind (obind o k) k' ≡ obind o (λ m. obind (k m) k')
 unfolding obind
 obind_then (wrote m) k k' = refl
-obind_then (stuck c) k k' = refl
+obind_then (stuck h c) k k' = refl
 
-pub obind_wrote : (o : Out (Traced Slices)) → obind o (λ m. wrote m) ≡ o
+pub obind_wrote : (o : Out (Traced Slices) (Unit {0})) → obind o (λ m. wrote m) ≡ o
 unfolding obind
 obind_wrote (wrote m) = refl
-obind_wrote (stuck c) = refl
+obind_wrote (stuck h c) = refl
 
-pub obind_same : (o : Out (Traced Slices)) (k k' : Traced Slices → Out (Traced Slices)) → ((m : Traced Slices) → k m ≡ k' m) → obind o k ≡ obind o k'
+pub obind_same : (o : Out (Traced Slices) (Unit {0})) (k k' : Traced Slices → Out (Traced Slices) (Unit {0})) → ((m : Traced Slices) → k m ≡ k' m) → obind o k ≡ obind o k'
 obind_same o k k' e = ap (obind o) (λ i m. e m i)
 
-pub then : (x : Out (Traced Slices)) (k k' : Traced Slices → Out (Traced Slices)) (y z : Out (Traced Slices)) → y ≡ obind x k → z ≡ obind y k' → z ≡ obind x (λ m. obind (k m) k')
-then x k k' y z e f = f ∙ ap (λ (o : Out (Traced Slices)). obind o k') e ∙ obind_then x k k'
+pub then : (x : Out (Traced Slices) (Unit {0})) (k k' : Traced Slices → Out (Traced Slices) (Unit {0})) (y z : Out (Traced Slices) (Unit {0})) → y ≡ obind x k → z ≡ obind y k' → z ≡ obind x (λ m. obind (k m) k')
+then x k k' y z e f = f ∙ ap (λ (o : Out (Traced Slices) (Unit {0})). obind o k') e ∙ obind_then x k k'
 
 module _ (n : ℕ) (t w l : List ℕ) where
-  run : (p : Pen) (k : Traced Slices → Out (Traced Slices)) → obind (traced_out n (Ok p) t w l) k ≡ k (traced_at n p t w l)
+  run : (p : Pen) (k : Traced Slices → Out (Traced Slices) (Unit {0})) → obind (traced_out n (Ok p) t w l) k ≡ k (traced_at n p t w l)
   unfolding obind
-  run p k = ap (λ (o : Out (Traced Slices)). obind o k) (goes n p t w l)
+  run p k = ap (λ (o : Out (Traced Slices) (Unit {0})). obind o k) (goes n p t w l)
 
-  halt : (c : Refusal) (k : Traced Slices → Out (Traced Slices)) → obind (traced_out n (Err c) t w l) k ≡ stuck (refusal_number c)
+  halt : (c : Refusal) (k : Traced Slices → Out (Traced Slices) (Unit {0})) → obind (traced_out n (Err c) t w l) k ≡ stuck tt (refusal_number c)
   unfolding obind
-  halt c k = ap (λ (o : Out (Traced Slices)). obind o k) (halts n c t w l)
+  halt c k = ap (λ (o : Out (Traced Slices) (Unit {0})). obind o k) (halts n c t w l)
 
   -- `?` hands on what stopped the writing, whatever comes after
-  pub ended : (c : Refusal) (r : Penned) (k : Traced Slices → Out (Traced Slices)) → IsErrAnd r (λ e. e ≡ c) → traced_out n r t w l ≡ obind (traced_out n (Err c) t w l) k
+  pub ended : (c : Refusal) (r : Penned) (k : Traced Slices → Out (Traced Slices) (Unit {0})) → IsErrAnd r (λ e. e ≡ c) → traced_out n r t w l ≡ obind (traced_out n (Err c) t w l) k
   ended c (Ok p) k e = absurd e
   ended c (Err d) k e = ap (λ (z : Refusal). traced_out n (Err z) t w l) e ∙ halts n c t w l ∙ sym (halt c k)
 
 module _ (n : ℕ) (p : Penned) (t w l : List ℕ) where
   -- a sheet that is at hand
-  pub at_slices : (k k' : Traced Slices → Out (Traced Slices)) → ((q : Pen) → p ≡ Ok q → k (traced_at n q t w l) ≡ k' (traced_at n q t w l)) → obind (traced_out n p t w l) k ≡ obind (traced_out n p t w l) k'
+  pub at_slices : (k k' : Traced Slices → Out (Traced Slices) (Unit {0})) → ((q : Pen) → p ≡ Ok q → k (traced_at n q t w l) ≡ k' (traced_at n q t w l)) → obind (traced_out n p t w l) k ≡ obind (traced_out n p t w l) k'
   at_slices k k' e = go p e
     where
       go : (r : Penned) → ((q : Pen) → r ≡ Ok q → k (traced_at n q t w l) ≡ k' (traced_at n q t w l)) → obind (traced_out n r t w l) k ≡ obind (traced_out n r t w l) k'
@@ -203,7 +203,7 @@ module _ (n : ℕ) (p : Penned) (t w l : List ℕ) where
       go (Err c) h = halt n t w l c k ∙ sym (halt n t w l c k')
 
   -- a step on the work alone, and then more
-  pub work_slices : (f : List ℕ → List ℕ) (w' : List ℕ) (k : Traced Slices → Out (Traced Slices)) → w' ≡ f w → obind (traced_out n p t w' l) k ≡ obind (traced_out n p t w l) (λ m. k (with_n m (f m.mach.work)))
+  pub work_slices : (f : List ℕ → List ℕ) (w' : List ℕ) (k : Traced Slices → Out (Traced Slices) (Unit {0})) → w' ≡ f w → obind (traced_out n p t w' l) k ≡ obind (traced_out n p t w l) (λ m. k (with_n m (f m.mach.work)))
   work_slices f w' k e = go p
     where
       go : (r : Penned) → obind (traced_out n r t w' l) k ≡ obind (traced_out n r t w l) (λ m. k (with_n m (f m.mach.work)))
@@ -220,34 +220,34 @@ module _ (n : ℕ) (p : Penned) (t w l : List ℕ) where
   flag_last x w' e = work_last (λ u. put_field u x 3 1) w' e
 
 module _ (n : ℕ) (p : Pen) (t w l : List ℕ) where
-  abbrev Here : Out (Traced Slices)
+  abbrev Here : Out (Traced Slices) (Unit {0})
   Here = traced_out n (Ok p) t w l
 
   -- from a pen
-  pub at_pen : (k k' : Traced Slices → Out (Traced Slices)) → k (traced_at n p t w l) ≡ k' (traced_at n p t w l) → obind Here k ≡ obind Here k'
+  pub at_pen : (k k' : Traced Slices → Out (Traced Slices) (Unit {0})) → k (traced_at n p t w l) ≡ k' (traced_at n p t w l) → obind Here k ≡ obind Here k'
   at_pen k k' e = run n t w l p k ∙ e ∙ sym (run n t w l p k')
 
   -- nothing done
-  pub same_slices : (k : Traced Slices → Out (Traced Slices)) → k (traced_at n p t w l) ≡ wrote (traced_at n p t w l) → Here ≡ obind Here k
+  pub same_slices : (k : Traced Slices → Out (Traced Slices) (Unit {0})) → k (traced_at n p t w l) ≡ wrote (traced_at n p t w l) → Here ≡ obind Here k
   same_slices k e = goes n p t w l ∙ sym (run n t w l p k ∙ e)
 
   -- a refusal
-  pub stop_slices : (c : Refusal) (k : Traced Slices → Out (Traced Slices)) → k (traced_at n p t w l) ≡ stuck (refusal_number c) → traced_out n (Err c) t w l ≡ obind Here k
+  pub stop_slices : (c : Refusal) (k : Traced Slices → Out (Traced Slices) (Unit {0})) → k (traced_at n p t w l) ≡ stuck tt (refusal_number c) → traced_out n (Err c) t w l ≡ obind Here k
   stop_slices c k e = halts n c t w l ∙ sym (run n t w l p k ∙ e)
 
   -- what a writer says
-  abbrev writes : Writer (List ℕ) → Traced Slices → Out (Traced Slices)
+  abbrev writes : Writer (List ℕ) → Traced Slices → Out (Traced Slices) (Unit {0})
   writes v m = with_entries m.entries (line_in v m.mach)
 
-  said_slices : (v : Writer (List ℕ)) (a : Placed) (t' w' : List ℕ) → out_of a t' w' ≡ put_said t (Ok p.at) (v w) → with_entries (entries_of p.count l) (slices_of n (out_of a t' w')) ≡ obind Here (writes v)
+  said_slices : (v : Writer (List ℕ)) (a : Placed) (t' w' : List ℕ) → out_of a t' w' ≡ put_said t (Ok p.at) v w → with_entries (entries_of p.count l) (slices_of n (out_of a t' w')) ≡ obind Here (writes v)
   unfolding line_in
   said_slices v a t' w' e = ap (λ q. with_entries (entries_of p.count l) (slices_of n q)) e ∙ sym (run n t w l p (writes v))
 
-  pub said_goes : (v : Writer (List ℕ)) (a : ℕ) (t' w' : List ℕ) → out_of (Ok a) t' w' ≡ put_said t (Ok p.at) (v w) → traced_out n (Ok (record { at = a; count = p.count })) t' w' l ≡ obind Here (writes v)
+  pub said_goes : (v : Writer (List ℕ)) (a : ℕ) (t' w' : List ℕ) → out_of (Ok a) t' w' ≡ put_said t (Ok p.at) v w → traced_out n (Ok (record { at = a; count = p.count })) t' w' l ≡ obind Here (writes v)
   unfolding traced_out
   said_goes v a t' w' e = said_slices v (Ok a) t' w' e
 
-  pub said_halts : (v : Writer (List ℕ)) (c : Refusal) (r : Penned) (t' w' : List ℕ) → out_of (Err c) t' w' ≡ put_said t (Ok p.at) (v w) → IsErrAnd r (λ e. e ≡ c) → traced_out n r t' w' l ≡ obind Here (writes v)
+  pub said_halts : (v : Writer (List ℕ)) (c : Refusal) (r : Penned) (t' w' : List ℕ) → out_of (Err c) t' w' ≡ put_said t (Ok p.at) v w → IsErrAnd r (λ e. e ≡ c) → traced_out n r t' w' l ≡ obind Here (writes v)
   unfolding with_entries
   said_halts v c (Ok q) t' w' e i = absurd i
   said_halts v c (Err d) t' w' e i = halts n d t' w' l ∙ ap (with_entries (entries_of p.count l)) (sym (plainly.halts n d t' w')) ∙ ap (λ (z : Refusal). with_entries (entries_of p.count l) (emit_out n (Err z) t' w')) i ∙ said_slices v (Err c) t' w' e
@@ -264,10 +264,10 @@ module _ (n : ℕ) (p : Pen) (t w l : List ℕ) where
       ∙ ap (λ (es : List Entry). wrote (record { mach = slices n p.at t w; entries = es })) (ap (entries_of (p.count + 1)) el ∙ entries_more p.count l e h)
       ∙ sym (run n t w l p (λ m. note_n (length l / 12) e m) ∙ rw (entries_length p.count l, lt-ltb p.count (length l / 12) h, note_n))
 
-  pub note_by : (o : Origin) (v room : ℕ) (x : Out (Traced Slices)) → v ≡ cause_code o.cause → x ≡ obind Here (λ m. note_n room (entry o.id v o.leader) m) → x ≡ obind Here (λ m. note_n room (entry_of o) m)
+  pub note_by : (o : Origin) (v room : ℕ) (x : Out (Traced Slices) (Unit {0})) → v ≡ cause_code o.cause → x ≡ obind Here (λ m. note_n room (entry o.id v o.leader) m) → x ≡ obind Here (λ m. note_n room (entry_of o) m)
   note_by o v room x e h = h ∙ ap (λ (k : ℕ). obind Here (λ m. note_n room (entry o.id k o.leader) m)) e
 
-  pub noteif_yes : (f : Bool) (room : ℕ) (e : Entry) (x : Out (Traced Slices)) → f ≡ true → x ≡ obind Here (λ m. note_n room e m) → x ≡ obind Here (λ m. note_if_n f room e m)
+  pub noteif_yes : (f : Bool) (room : ℕ) (e : Entry) (x : Out (Traced Slices) (Unit {0})) → f ≡ true → x ≡ obind Here (λ m. note_n room e m) → x ≡ obind Here (λ m. note_if_n f room e m)
   unfolding note_if_n
   noteif_yes f room e x h ex = ex ∙ ap (λ (g : Bool). obind Here (λ m. note_if_n g room e m)) (sym h)
 
@@ -276,24 +276,24 @@ module _ (n : ℕ) (p : Pen) (t w l : List ℕ) where
   noteif_no f room e h = same_slices (λ m. note_if_n f room e m) (ap (λ (g : Bool). note_if_n g room e (traced_at n p t w l)) h)
 
 -- ---- a line: the note, and what is said
-line_is : (f : Bool) (room : ℕ) (e : Entry) (v : Writer (List ℕ)) (m : Traced Slices) → obind (note_if_n f room e m) (λ k. with_entries k.entries (line_in v k.mach)) ≡ line (up_to room) f e (λ k. line_in v k) m
+line_is : (f : Bool) (room : ℕ) (e : Entry) (v : Writer (List ℕ)) (m : Traced Slices) → obind (note_if_n f room e m) (λ k. with_entries k.entries (line_in v k.mach)) ≡ line (λ z. tt) (up_to room) f e (λ k. line_in v k) m
 unfolding note_if_n note_n obind line
 line_is false room e v m = refl
 line_is true room e v m = go (ltb (length m.entries) room)
   where
-    go : (x : Bool) → obind (elim x as (λ z. Out (Traced Slices)) [ true ↦ wrote (record { mach = m.mach; entries = m.entries ++ (e ∷ []) }) | false ↦ stuck 17 ]) (λ k. with_entries k.entries (line_in v k.mach))
-        ≡ (elim x as (λ z. Out (Traced Slices)) [ true ↦ with_entries (m.entries ++ (e ∷ [])) (line_in v m.mach) | false ↦ stuck 17 ])
+    go : (x : Bool) → obind (elim x as (λ z. Out (Traced Slices) (Unit {0})) [ true ↦ wrote (record { mach = m.mach; entries = m.entries ++ (e ∷ []) }) | false ↦ stuck tt 17 ]) (λ k. with_entries k.entries (line_in v k.mach))
+        ≡ (elim x as (λ z. Out (Traced Slices) (Unit {0})) [ true ↦ with_entries (m.entries ++ (e ∷ [])) (line_in v m.mach) | false ↦ stuck tt 17 ])
     go true = refl
     go false = refl
 
 -- a line: its entry, and what the writer says
-pub line_shown : (o x : Out (Traced Slices)) (f g : Bool) (lent : Lent) (e : Entry) (v : Writer (List ℕ)) (y : Out (Traced Slices)) → f ≡ (lent.lists && g) → y ≡ obind o (λ m. note_if_n f lent.room e m)
+pub line_shown : (o x : Out (Traced Slices) (Unit {0})) (f g : Bool) (lent : Lent) (e : Entry) (v : Writer (List ℕ)) (y : Out (Traced Slices) (Unit {0})) → f ≡ (lent.lists && g) → y ≡ obind o (λ m. note_if_n f lent.room e m)
     → x ≡ obind y (λ m. with_entries m.entries (line_in v m.mach)) → x ≡ obind o (λ m. line_n lent g e v m)
 unfolding line_n
 line_shown o x f g lent e v y fg ey ex =
     then o (λ m. note_if_n f lent.room e m) (λ m. with_entries m.entries (line_in v m.mach)) y x ey ex
-    ∙ obind_same o (λ m. obind (note_if_n f lent.room e m) (λ k. with_entries k.entries (line_in v k.mach))) (λ m. line (up_to lent.room) f e (λ k. line_in v k) m) (λ m. line_is f lent.room e v m)
-    ∙ ap (λ (z : Bool). obind o (λ m. line (up_to lent.room) z e (λ k. line_in v k) m)) fg
+    ∙ obind_same o (λ m. obind (note_if_n f lent.room e m) (λ k. with_entries k.entries (line_in v k.mach))) (λ m. line (λ z. tt) (up_to lent.room) f e (λ k. line_in v k) m) (λ m. line_is f lent.room e v m)
+    ∙ ap (λ (z : Bool). obind o (λ m. line (λ z. tt) (up_to lent.room) z e (λ k. line_in v k) m)) fg
 
 -- a list of the same length has the same room
 abbrev pub lent_length : Bool → ℕ → Lent
@@ -309,19 +309,19 @@ and_true f = sym (and-true f)
 pub kept_by : {X : Type 0} → (P : List ℕ → X) (n : ℕ) (a : Pen) (t₁ w₁ l₁ w : List ℕ) → Stays P w (traced_out n (Ok a) t₁ w₁ l₁) → P w₁ ≡ P w
 kept_by P n a t₁ w₁ l₁ w h = go (traced_out n (Ok a) t₁ w₁ l₁) h (goes n a t₁ w₁ l₁)
   where
-    same_wrote : (m m' : Traced Slices) → wrote m ≡ wrote m' → m ≡ m'
+    same_wrote : (m m' : Traced Slices) → ◌≡◌ {A = Out (Traced Slices) (Unit {0})} (wrote m) (wrote m') → m ≡ m'
     same_wrote m m' e = cc
 
-    no : (c : ℕ) (m : Traced Slices) → stuck c ≡ wrote m → ⊥
-    no c m e = let k : ◌≡◌ {A = ℕ} 0 1 = cc in omega arith
+    no : (h : Unit {0}) (c : ℕ) (m : Traced Slices) → stuck h c ≡ wrote m → ⊥
+    no h c m e = let k : ◌≡◌ {A = ℕ} 0 1 = cc in omega arith
 
-    go : (o : Out (Traced Slices)) → Stays P w o → o ≡ wrote (traced_at n a t₁ w₁ l₁) → P w₁ ≡ P w
+    go : (o : Out (Traced Slices) (Unit {0})) → Stays P w o → o ≡ wrote (traced_at n a t₁ w₁ l₁) → P w₁ ≡ P w
     go (wrote m) (on e) q = ap (λ (y : Traced Slices). P y.mach.work) (sym (same_wrote m (traced_at n a t₁ w₁ l₁) q)) ∙ e
-    go (stuck c) off q = absurd (no c (traced_at n a t₁ w₁ l₁) q)
+    go (stuck h c) off q = absurd (no h c (traced_at n a t₁ w₁ l₁) q)
 
 -- ---- the table after a call is the table before it
 module _ (b : TypeTable) (s : List ℕ) where
-  pub same_table : (n : ℕ) (a : Penned) (t₁ w₁ l₁ w : List ℕ) (k : Rules → Traced Slices → Out (Traced Slices)) → Stays (btf_of b s) w (traced_out n a t₁ w₁ l₁)
+  pub same_table : (n : ℕ) (a : Penned) (t₁ w₁ l₁ w : List ℕ) (k : Rules → Traced Slices → Out (Traced Slices) (Unit {0})) → Stays (btf_of b s) w (traced_out n a t₁ w₁ l₁)
       → obind (traced_out n a t₁ w₁ l₁) (k (btf_of b s w₁)) ≡ obind (traced_out n a t₁ w₁ l₁) (k (btf_of b s w))
   same_table n a t₁ w₁ l₁ w k h = at_slices n a t₁ w₁ l₁ (k (btf_of b s w₁)) (k (btf_of b s w))
       (λ q e. ap (λ (B : Rules). k B (traced_at n q t₁ w₁ l₁)) (kept_by (btf_of b s) n q t₁ w₁ l₁ w (subst (λ (r : Penned). Stays (btf_of b s) w (traced_out n r t₁ w₁ l₁)) e h)))

@@ -41,15 +41,15 @@ module _ (b : TypeTable) (B : Rules) (lent : Lent) (ty : BtfType) (n : ℕ) (p :
   had_is had e = e
 
   module _ (e : Entry) (had : Bool) (eh : had ≡ not (eqb (get_field w id 3) 0)) where
-    abbrev once_then : Traced Slices → Out (Traced Slices)
+    abbrev once_then : Traced Slices → Out (Traced Slices) (Unit {0})
     once_then m = once_n b B lent ty e (has_n b B lent m id) m id
 
     pub once_had : had ≡ true → traced_out n (Ok p) t w li ≡ obind (traced_out n (Ok p) t w li) once_then
     unfolding once_n once
     once_had h = same_slices n p t w li once_then (ap (λ (x : Bool). once_n b B lent ty e x (traced_at n p t w li) id) (sym (had_is had eh) ∙ h))
 
-    pub once_new : had ≡ false → (y : Out (Traced Slices)) → y ≡ obind (traced_out n (Ok p) t w li) (λ m. line_n lent (shown_of ty) e (forward_once (work_asks b.types B) (work_naming b) B id ty) m)
-        → (x : Out (Traced Slices)) → x ≡ obind y (λ m. wrote (with_n m (put_field m.mach.work id 3 1))) → x ≡ obind (traced_out n (Ok p) t w li) once_then
+    pub once_new : had ≡ false → (y : Out (Traced Slices) (Unit {0})) → y ≡ obind (traced_out n (Ok p) t w li) (λ m. line_n lent (shown_of ty) e (forward_once (work_asks b.types B) (work_naming b) B id ty) m)
+        → (x : Out (Traced Slices) (Unit {0})) → x ≡ obind y (λ m. wrote (with_n m (put_field m.mach.work id 3 1))) → x ≡ obind (traced_out n (Ok p) t w li) once_then
     unfolding once_n once work_machine
     once_new h y ey x ex =
         then (traced_out n (Ok p) t w li) (λ m. line_n lent (shown_of ty) e (forward_once (work_asks b.types B) (work_naming b) B id ty) m) (λ m. wrote (with_n m (put_field m.mach.work id 3 1))) y x ey ex
@@ -65,7 +65,7 @@ module _ (b : TypeTable) (B : Rules) (lent : Lent) (ty : BtfType) (n : ℕ) (p :
       or_true true y h = refl
       or_true false y h = h
 
-  pub mention_other : (cont : ℕ) → (id ≡ cont → ⊥) → (z : Entry) → z ≡ entry id 2 cont → (x : Out (Traced Slices)) → x ≡ obind (traced_out n (Ok p) t w li) (λ m. once_n b B lent ty z (has_n b B lent m id) m id) → x ≡ obind (traced_out n (Ok p) t w li) (λ m. mention_n b B lent ty cont m id)
+  pub mention_other : (cont : ℕ) → (id ≡ cont → ⊥) → (z : Entry) → z ≡ entry id 2 cont → (x : Out (Traced Slices) (Unit {0})) → x ≡ obind (traced_out n (Ok p) t w li) (λ m. once_n b B lent ty z (has_n b B lent m id) m id) → x ≡ obind (traced_out n (Ok p) t w li) (λ m. mention_n b B lent ty cont m id)
   unfolding mention_n
   mention_other cont e z ez x ex = ex ∙ ap (λ (y : Entry). obind (traced_out n (Ok p) t w li) (λ m. once_n b B lent ty y (has_n b B lent m id) m id)) ez ∙ obind_same (traced_out n (Ok p) t w li) (λ m. once_n b B lent ty (entry id 2 cont) (has_n b B lent m id) m id) (λ m. mention_n b B lent ty cont m id)
       (λ m. ap (λ (y : Bool). once_n b B lent ty (entry id 2 cont) y m id) (or_false (has_n b B lent m id) (eqb id cont) (ne_eqb id cont e)))
@@ -80,14 +80,14 @@ module _ (b : TypeTable) (B : Rules) (lent : Lent) (why : ℕ → Entry) (cont :
   pub once_fwd : (m : Traced Slices) (id : ℕ) (had : Bool) → ty ≡ B.type_by_id id → once_n b B lent ty (entry id 2 cont) had m id ≡ once (mach_n b B lent why cont) (table_of B) (mach_n b B lent why cont).fwd_line id had m
   unfolding once_n once work_machine line_n
   once_fwd m id true e = refl
-  once_fwd m id false e = ap (λ (y : BtfType). obind (line (up_to lent.room) (lent.lists && shown_of y) (entry id 2 cont) (λ k. line_in (forward_once (work_asks b.types B) (work_naming b) B id y) k) m) (λ m'. wrote (with_n m' (put_field m'.mach.work id 3 1)))) e
+  once_fwd m id false e = ap (λ (y : BtfType). obind (line (λ z. tt) (up_to lent.room) (lent.lists && shown_of y) (entry id 2 cont) (λ k. line_in (forward_once (work_asks b.types B) (work_naming b) B id y) k) m) (λ m'. wrote (with_n m' (put_field m'.mach.work id 3 1)))) e
 
   pub once_alias : (e : Entry) (m : Traced Slices) (id : ℕ) → e ≡ cause_at 3 (why id) id cont → (had : Bool) → ty ≡ B.type_by_id id → once_n b B lent ty e had m id ≡ once (mach_n b B lent why cont) (table_of B) (mach_n b B lent why cont).alias_line id had m
   unfolding once_n once work_machine line_n
   once_alias e m id ee true q = refl
   once_alias e m id ee false q =
-      ap (λ (y : BtfType). obind (line (up_to lent.room) (lent.lists && shown_of y) e (λ k. line_in (forward_once (work_asks b.types B) (work_naming b) B id y) k) m) (λ m'. wrote (with_n m' (put_field m'.mach.work id 3 1)))) q
-      ∙ ap (λ (z : Entry). obind (line (up_to lent.room) (lent.lists && shows_in B id) z (λ k. line_in (forward_once (work_asks b.types B) (work_naming b) B id (B.type_by_id id)) k) m) (λ m'. wrote (with_n m' (put_field m'.mach.work id 3 1)))) ee
+      ap (λ (y : BtfType). obind (line (λ z. tt) (up_to lent.room) (lent.lists && shown_of y) e (λ k. line_in (forward_once (work_asks b.types B) (work_naming b) B id y) k) m) (λ m'. wrote (with_n m' (put_field m'.mach.work id 3 1)))) q
+      ∙ ap (λ (z : Entry). obind (line (λ z. tt) (up_to lent.room) (lent.lists && shows_in B id) z (λ k. line_in (forward_once (work_asks b.types B) (work_naming b) B id (B.type_by_id id)) k) m) (λ m'. wrote (with_n m' (put_field m'.mach.work id 3 1)))) ee
 
 module _ (b : TypeTable) (s : List ℕ) (B : Rules) (lent : Lent) (why : ℕ → Entry) (m : Traced Slices) (id cont : ℕ) (t : Record) where
   again_kind : (y : Kind) → (y ≡ kinds.Struct → ⊥) → (y ≡ kinds.Union → ⊥) → (y ≡ kinds.Typedef → ⊥) → again (mach_n b B lent why cont) (table_of B) m id cont (node_of (type_as b s t y)) ≡ wrote m
@@ -118,7 +118,7 @@ module _ (b : TypeTable) (s : List ℕ) (lent : Lent) (why : ℕ → Entry) (n :
   abbrev B : Rules
   B = btf_of b s w
 
-  abbrev Again : Out (Traced Slices) → Type 0
+  abbrev Again : Out (Traced Slices) (Unit {0}) → Type 0
   Again x = x ≡ obind (traced_out n (Ok p) tx w li) (λ m. again_n b B lent why cont m id)
 
   again_quiet : (m : Traced Slices) (nd : Node) → (mach_n b B lent why cont).has_fwd m id ≡ true → again (mach_n b B lent why cont) (table_of B) m id cont nd ≡ wrote m
@@ -171,7 +171,7 @@ module _ (b : TypeTable) (s : List ℕ) (lent : Lent) (why : ℕ → Entry) (n :
               go false true ev ef z = absurd (true≢false (sym z))
               go true f ev ef z = absurd (true≢false (sym z))
 
-          pub again_mention : (not (eqb id cont) && not nm) ≡ false → (x : Out (Traced Slices)) → x ≡ obind (traced_out n (Ok p) tx w li) (λ m. mention_n b B lent (type_of b s t) cont m id) → Again x
+          pub again_mention : (not (eqb id cont) && not nm) ≡ false → (x : Out (Traced Slices) (Unit {0})) → x ≡ obind (traced_out n (Ok p) tx w li) (λ m. mention_n b B lent (type_of b s t) cont m id) → Again x
           unfolding again_n mention mention_n has_n once_n once
           again_mention h x ex = ex ∙ at_pen n p tx w li (λ m. mention_n b B lent (type_of b s t) cont m id) (λ m. again_n b B lent why cont m id) (said ∙ go (eqb id cont) nm refl refl h)
             where
@@ -185,7 +185,7 @@ module _ (b : TypeTable) (s : List ℕ) (lent : Lent) (why : ℕ → Entry) (n :
                   ∙ once_fwd b B lent why cont (type_of b s t) (traced_at n p tx w li) id false (sym (type_at b s w id t et)) ∙ sym (mention_is false true ev ef)
               go false false ev ef z = absurd (true≢false z)
 
-        pub again_typedef : k ≡ kinds.Typedef → (e : Entry) → e ≡ cause_at 3 (why id) id cont → (x : Out (Traced Slices)) → x ≡ obind (traced_out n (Ok p) tx w li) (λ m. once_n b B lent (type_of b s t) e (has_n b B lent m id) m id) → Again x
+        pub again_typedef : k ≡ kinds.Typedef → (e : Entry) → e ≡ cause_at 3 (why id) id cont → (x : Out (Traced Slices) (Unit {0})) → x ≡ obind (traced_out n (Ok p) tx w li) (λ m. once_n b B lent (type_of b s t) e (has_n b B lent m id) m id) → Again x
         unfolding again_n again has_n
         again_typedef k8 e ee x ex = ex ∙ at_pen n p tx w li (λ m. once_n b B lent (type_of b s t) e (has_n b B lent m id) m id) (λ m. again_n b B lent why cont m id)
             (once_alias b B lent why cont (type_of b s t) e (traced_at n p tx w li) id ee ((mach_n b B lent why cont).has_fwd (traced_at n p tx w li) id) (sym (type_at b s w id t et))
@@ -204,10 +204,10 @@ module _ (b : TypeTable) (s : List ℕ) (lent : Lent) (why : ℕ → Entry) (n :
   abbrev Bt : Rules
   Bt = btf_of b s w
 
-  abbrev em : ℕ → Traced Slices → ℕ → ℕ → Out (Traced Slices)
+  abbrev em : ℕ → Traced Slices → ℕ → ℕ → Out (Traced Slices) (Unit {0})
   em k m y c = emit_n b Bt lent why k c m y
 
-  abbrev Emits : Out (Traced Slices) → Type 0
+  abbrev Emits : Out (Traced Slices) (Unit {0}) → Type 0
   Emits x = x ≡ obind (traced_out n (Ok p) tx w li) (λ m. emit_n b Bt lent why left cont m id)
 
   pub too_deep : left ≡ 0 → Emits (traced_out n (Err TooDeep) tx w li)
@@ -226,7 +226,7 @@ module _ (b : TypeTable) (s : List ℕ) (lent : Lent) (why : ℕ → Entry) (n :
     unfolding emit_n look
     emit_done e = same_slices n p tx w li (λ m. emit_n b Bt lent why left cont m id) (unroll done e)
 
-    pub emit_busy : mark_of (get_field w id 13) ≡ busy → (x : Out (Traced Slices)) → x ≡ obind (traced_out n (Ok p) tx w li) (λ m. again_n b Bt lent why cont m id) → Emits x
+    pub emit_busy : mark_of (get_field w id 13) ≡ busy → (x : Out (Traced Slices) (Unit {0})) → x ≡ obind (traced_out n (Ok p) tx w li) (λ m. again_n b Bt lent why cont m id) → Emits x
     unfolding emit_n look again_n
     emit_busy e x ex = ex ∙ at_pen n p tx w li (λ m. again_n b Bt lent why cont m id) (λ m. emit_n b Bt lent why left cont m id) (sym (unroll busy e))
 
@@ -242,7 +242,7 @@ module _ (b : TypeTable) (s : List ℕ) (lent : Lent) (why : ℕ → Entry) (n :
       unfolding emit_n allowed
       emit_nameless e = stop_slices n p tx w li NamelessTypedef (λ m. emit_n b Bt lent why left cont m id) (gate_is true e)
 
-      pub emit_fresh : (eqb cont 0 && not nm) ≡ false → (x : Out (Traced Slices)) → x ≡ obind (traced_out n (Ok p) tx w li) (λ m. new_n b Bt lent why (left - 1) cont m id) → Emits x
+      pub emit_fresh : (eqb cont 0 && not nm) ≡ false → (x : Out (Traced Slices) (Unit {0})) → x ≡ obind (traced_out n (Ok p) tx w li) (λ m. new_n b Bt lent why (left - 1) cont m id) → Emits x
       unfolding emit_n allowed new_n
       emit_fresh e x ex = ex ∙ at_pen n p tx w li (λ m. new_n b Bt lent why (left - 1) cont m id) (λ m. emit_n b Bt lent why left cont m id) (sym (gate_is false e))
 
@@ -260,15 +260,15 @@ module _ (b : TypeTable) (s : List ℕ) (lent : Lent) (why : ℕ → Entry) (n :
 
 -- ---- emit_leaf
 module _ (b : TypeTable) (s : List ℕ) (lent : Lent) (why : ℕ → Entry) (n : ℕ) (p : Pen) (tx w li : List ℕ) (id cont : ℕ) (t : Record) (et : t ≡ record_by_id b s w id) (is_fwd : Bool) where
-  abbrev Leaf : Traced Slices → Out (Traced Slices)
+  abbrev Leaf : Traced Slices → Out (Traced Slices) (Unit {0})
   Leaf m = leaf_n b (btf_of b s w) lent why is_fwd cont m id
 
   shown_is : (f : Bool) → (is_fwd || eqb cont 0) ≡ f → f ≡ (is_fwd || is_zero cont)
   shown_is f e = sym (ap (λ (g : Bool). is_fwd || g) (zero_is cont) ∙ e)
 
-  pub leaf_shown : (is_fwd || eqb cont 0) ≡ true → (e : Entry) → e ≡ cause_at 2 (why id) id cont → (y : Out (Traced Slices))
+  pub leaf_shown : (is_fwd || eqb cont 0) ≡ true → (e : Entry) → e ≡ cause_at 2 (why id) id cont → (y : Out (Traced Slices) (Unit {0}))
       → y ≡ obind (traced_out n (Ok p) tx w li) (λ m. line_n lent true e (definition_once (work_asks b.types (btf_of b s w)) (work_naming b) (btf_of b s w) id (type_of b s t)) m)
-      → (x : Out (Traced Slices)) → x ≡ obind y (λ m. wrote (state_n id 2 m)) → x ≡ obind (traced_out n (Ok p) tx w li) Leaf
+      → (x : Out (Traced Slices) (Unit {0})) → x ≡ obind y (λ m. wrote (state_n id 2 m)) → x ≡ obind (traced_out n (Ok p) tx w li) Leaf
   unfolding leaf_n leaf work_machine line_n
   leaf_shown f e ee y ey x ex =
       then (traced_out n (Ok p) tx w li) (λ m. line_n lent true e (definition_once (work_asks b.types (btf_of b s w)) (work_naming b) (btf_of b s w) id (type_of b s t)) m) (λ m. wrote (state_n id 2 m)) y x ey ex
@@ -307,7 +307,7 @@ module _ (b : TypeTable) (s : List ℕ) (lent : Lent) (why : ℕ → Entry) (w�
             inv.whole
             ∙ ap (λ (i : ℕ). obind (traced_out n (Ok p) tx w li) (λ m. eeach (emit_n b (btf_of b s w₀) lent why left cont) (from id k i) m)) d
             ∙ sym (obind_then (traced_out n (Ok p) tx w li) (λ m. emit_n b (btf_of b s w₀) lent why left cont m (id k)) (λ m. eeach (emit_n b (btf_of b s w₀) lent why left cont) (from id (k + 1) (vlen - (k + 1))) m))
-            ∙ ap (λ (o : Out (Traced Slices)). obind o (λ m. eeach (emit_n b (btf_of b s w₀) lent why left cont) (from id (k + 1) (vlen - (k + 1))) m)) (sym call₀)
+            ∙ ap (λ (o : Out (Traced Slices) (Unit {0})). obind o (λ m. eeach (emit_n b (btf_of b s w₀) lent why left cont) (from id (k + 1) (vlen - (k + 1))) m)) (sym call₀)
             );
         table = subst (Stays (btf_of b s) w₀) (sym call₀) (stays_then (btf_of b s) w₀ (traced_out n (Ok p) tx w li) (λ m. emit_n b (btf_of b s w₀) lent why left cont m (id k)) inv.table (λ m. table_emit b s (btf_of b s w₀) lent why left m (id k) cont));
       }

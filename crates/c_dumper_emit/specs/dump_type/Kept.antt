@@ -30,9 +30,9 @@ pub record Beside : Type 0 where
   pub leaders : List ℕ
 
 -- after a refusal nothing is said of them
-unfoldable pub with_leaders : List ℕ → Out (Traced Slices) → Out Beside
+unfoldable pub with_leaders : List ℕ → Out (Traced Slices) (Unit {0}) → Out Beside (Unit {0})
 with_leaders l (wrote m) = wrote (record { traced = m; leaders = l })
-with_leaders l (stuck c) = stuck c
+with_leaders l (stuck held c) = stuck held c
 
 -- ordering as a request starts it, after so many calls
 unfoldable pub ordered_kept : Rules → Limit → Slices → List ℕ → ℕ → ℕ → ℕ → Told MarksAndLeaders
@@ -44,17 +44,17 @@ module _ (b : TypeTable) (B : Rules) (lent : Lent) where
   abbrev pub beside_kept : Traced Slices → MarksAndLeaders → Traced Slices
   beside_kept m s = record { mach = with_marks m.mach s.marks; entries = m.entries }
 
-  unfoldable pub each_kept : ℕ → ℕ → Traced Slices → MarksAndLeaders → Out (Traced Slices)
+  unfoldable pub each_kept : ℕ → ℕ → Traced Slices → MarksAndLeaders → Out (Traced Slices) (Unit {0})
   each_kept id turn m s =
       eeach (emit_n b B lent (entry_in id turn s.leaders) 512 0) (slices_store.list (with_marks m.mach s.marks)) (beside_kept m s)
 
-  unfoldable pub listed_kept : ℕ → ℕ → Traced Slices → Told MarksAndLeaders → Out Beside
+  unfoldable pub listed_kept : ℕ → ℕ → Traced Slices → Told MarksAndLeaders → Out Beside (Unit {0})
   listed_kept id turn m (told s strong made) =
       with_leaders s.leaders (obind (each_kept id turn m s) (λ k. wrote (record {
         mach = (work_machine b B).start 0 k.mach;
         entries = k.entries;
       })))
-  listed_kept id turn m (halted c made) = stuck c
+  listed_kept id turn m (halted c made) = stuck ((work_machine b B).held m.mach) c
 
-  unfoldable pub dumped_kept : Limit → Beside → ℕ → ℕ → ℕ → Out Beside
+  unfoldable pub dumped_kept : Limit → Beside → ℕ → ℕ → ℕ → Out Beside (Unit {0})
   dumped_kept lim m id turn made = listed_kept id turn m.traced (ordered_kept B lim m.traced.mach m.leaders id turn made)

@@ -9,12 +9,15 @@ use Rattle.spec_bytes.specs.text.Placed.{Placed}
 use Rattle.spec_c_dumper.specs.rules.Types.{is_empty}
 use Rattle.spec_c_dumper.specs.rules.Writer.{Said, said_text, said_names, Writer, put}
 use Rattle.spec_c_dumper.specs.rules.Place.{out_of, put_said}
-use Rattle.spec_c_dumper.specs.rules.Names.{Space, Resolved, spelled, resolving, resolve_type_name, resolve_name}
+use Rattle.spec_c_dumper.proofs.rules.Writing.{said_moved}
+use Rattle.spec_c_dumper.proofs.rules.Held.{resolved_within}
+use Rattle.spec_c_dumper.specs.rules.Names.{Space, Resolved, spelled, resolve_type_name, resolve_name}
 use Rattle.spec_type_table.specs.declared.types.TypeTable.{TypeTable}
 use Rattle.spec_type_table.specs.Cells.{get_field, put_field, class_p, count_p, count_raised}
 use Rattle.spec_type_table.specs.Numbers.{number_at}
 use Rattle.spec_type_table.specs.Names.{str_at}
 use Rattle.spec_type_table.specs.Table.{work_naming, type_version_in, value_version_in, enumerator_of}
+use Rattle.spec_type_table.proofs.Frame.{type_within, value_within}
 use Rattle.c_dumper_name_versions.specs.declared.names.versions.Name.{Name}
 use Rattle.c_dumper_name_versions.specs.names.Spelling.{name_text}
 use Rattle.std.specs.Prelude.{None, unwrap_or}
@@ -34,20 +37,20 @@ module _ (b : TypeTable) (space : Space) (id : ℕ) (name w : List ℕ) where
 
   some_name : (k : List ℕ → Writer (List ℕ)) → is_empty name ≡ false
       → resolve_type_name (work_naming b) space id name k w ≡ k (spelled name (type_version_in b.types id w).version) (type_version_in b.types id w).names
-  unfolding resolve_type_name resolving work_naming
-  some_name k e = rw (e, resolve_type_name)
+  unfolding resolve_type_name work_naming
+  some_name k e = rw (e, resolve_type_name) (sym (resolved_within (type_version_in b.types id) (λ v. k (spelled name v)) w (type_within b.types id w)))
 
 module _ (types id : ℕ) (w : List ℕ) where
-  version_held : (v : ℕ) → (v ≡ 0 → ⊥) → v ≡ get_field w id 4 → ◌≡◌ {A = Resolved (List ℕ)} (record { version = v; names = w }) (type_version_in types id w)
+  version_held : (v : ℕ) → (v ≡ 0 → ⊥) → v ≡ get_field w id 4 → ◌≡◌ {A = Resolved (List ℕ)} (record { passes = false; version = v; names = w }) (type_version_in types id w)
   unfolding type_version_in
-  version_held v n e = rw (ne_eqb (get_field w id 4) 0 (λ z. n (e ∙ z)), type_version_in) (λ i. record { version = e i; names = w })
+  version_held v n e = rw (ne_eqb (get_field w id 4) 0 (λ z. n (e ∙ z)), type_version_in) (λ i. record { passes = false; version = e i; names = w })
 
   version_more : (n : ℕ) (w₁ w₂ : List ℕ) → get_field w id 4 ≡ 0
       → n ≡ number_at types w id → w₁ ≡ count_raised (class_p types) (count_p types) w id → w₂ ≡ put_field w₁ id 4 n
-      → ◌≡◌ {A = Resolved (List ℕ)} (record { version = n; names = w₂ }) (type_version_in types id w)
+      → ◌≡◌ {A = Resolved (List ℕ)} (record { passes = false; version = n; names = w₂ }) (type_version_in types id w)
   unfolding type_version_in
   version_more n w₁ w₂ z en e₁ e₂ =
-      rw (z, type_version_in) (λ i. record { version = en i; names = (e₂ ∙ ap₂ (λ (x : List ℕ) (y : ℕ). put_field x id 4 y) e₁ en) i })
+      rw (z, type_version_in) (λ i. record { passes = false; version = en i; names = (e₂ ∙ ap₂ (λ (x : List ℕ) (y : ℕ). put_field x id 4 y) e₁ en) i })
 
 -- ---- resolve_type_name's own returns
 module _ (b : TypeTable) (space : Space) (id : ℕ) (name w : List ℕ) where
@@ -78,7 +81,7 @@ module _ (types e : ℕ) (w : List ℕ) where
   unfolding value_version_in
   value_counted n w₁ h q = rw (lt-ltb (types + e) 4294967296 h, value_version_in) q
 
-  no_version : 4294967296 ≤ types + e → ◌≡◌ {A = Resolved (List ℕ)} (record { version = 0; names = w }) (value_version_in types e w)
+  no_version : 4294967296 ≤ types + e → ◌≡◌ {A = Resolved (List ℕ)} (record { passes = false; version = 0; names = w }) (value_version_in types e w)
   unfolding value_version_in
   no_version h = rw (le-ltb (types + e) 4294967296 h, value_version_in)
 
@@ -107,24 +110,25 @@ resolved_type b space₀ space id name n w w' k e = go (is_empty name) refl
 
 -- after resolve_type_name
 pub put_type_name : (b : TypeTable) (space₀ space : Space) (id : ℕ) (name n w w' : List ℕ) (k : List ℕ → Writer (List ℕ)) (t : List ℕ) (at r : Placed) (t'' w'' : List ℕ)
-    → put n w' ≡ resolve_type_name (work_naming b) space₀ id name put w → out_of r t'' w'' ≡ put_said t at (k n w')
-    → out_of r t'' w'' ≡ put_said t at (resolve_type_name (work_naming b) space id name k w)
-put_type_name b space₀ space id name n w w' k t at r t'' w'' e o = o ∙ ap (put_said t at) (resolved_type b space₀ space id name n w w' k e)
+    → put n w' ≡ resolve_type_name (work_naming b) space₀ id name put w → out_of r t'' w'' ≡ put_said t at (k n) w'
+    → out_of r t'' w'' ≡ put_said t at (resolve_type_name (work_naming b) space id name k) w
+put_type_name b space₀ space id name n w w' k t at r t'' w'' e o = o ∙ said_moved _ t at _ _ _ _ refl (resolved_type b space₀ space id name n w w' k e)
 
 -- after resolve_name, of enumerator e, which is value i of enum id
 pub resolved_value : (b : TypeTable) (s : List ℕ) (id i e off : ℕ) (n : Name) (w w' : List ℕ) (k : List ℕ → Writer (List ℕ))
     → e ≡ enumerator_of w id i
     → (n.off ≡ off) × (unwrap_or n.number 0 ≡ (value_version_in b.types e w).version) × (w' ≡ (value_version_in b.types e w).names)
     → k (name_text b s n) w' ≡ resolve_name (work_naming b) id i (str_at b s off) k w
-unfolding resolve_name resolving work_naming
+unfolding resolve_name work_naming
 resolved_value b s id i e off n w w' k ee q =
     ap₂ (λ (x y : ℕ). k (spelled (str_at b s x) y) w') q.0 q.1
     ∙ ap (λ (x : List ℕ). k (spelled (str_at b s off) (value_version_in b.types e w).version) x) q.2
     ∙ ap (λ (x : ℕ). k (spelled (str_at b s off) (value_version_in b.types x w).version) (value_version_in b.types x w).names) ee
+    ∙ resolved_within (λ u. value_version_in b.types (enumerator_of u id i) u) (λ v. k (spelled (str_at b s off) v)) w (value_within b.types (enumerator_of w id i) w)
 
 pub put_value_name : (b : TypeTable) (s : List ℕ) (id i e off : ℕ) (n : Name) (w w' : List ℕ) (k : List ℕ → Writer (List ℕ)) (t : List ℕ) (at r : Placed) (t'' w'' : List ℕ)
     → e ≡ enumerator_of w id i
     → (n.off ≡ off) × (unwrap_or n.number 0 ≡ (value_version_in b.types e w).version) × (w' ≡ (value_version_in b.types e w).names)
-    → out_of r t'' w'' ≡ put_said t at (k (name_text b s n) w')
-    → out_of r t'' w'' ≡ put_said t at (resolve_name (work_naming b) id i (str_at b s off) k w)
-put_value_name b s id i e off n w w' k t at r t'' w'' ee q o = o ∙ ap (put_said t at) (resolved_value b s id i e off n w w' k ee q)
+    → out_of r t'' w'' ≡ put_said t at (k (name_text b s n)) w'
+    → out_of r t'' w'' ≡ put_said t at (resolve_name (work_naming b) id i (str_at b s off) k) w
+put_value_name b s id i e off n w w' k t at r t'' w'' ee q o = o ∙ said_moved _ t at _ _ _ _ refl (resolved_value b s id i e off n w w' k ee q)

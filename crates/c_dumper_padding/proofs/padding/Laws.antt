@@ -44,9 +44,9 @@ module _ (types : ℕ) (B : Rules) (offset : ℕ) (m : Member) (packed : Bool) (
   unfolding padding_once forget
   no_gap h = rw (le-leb m.bit_offset offset h, padding_once)
 
-  pub emit_none : m.bit_offset ≤ offset → out_of (Ok at) t w ≡ put_said t (Ok at) (pad_said types B offset m packed lvl w)
+  pub emit_none : m.bit_offset ≤ offset → out_of (Ok at) t w ≡ put_said t (Ok at) (pad_said types B offset m packed lvl) w
   unfolding pad_said pads
-  emit_none h = given_found t (Ok at) ask (λ ps. put (pads lvl ps)) w w (Ok at) t [] w (no_gap h ∙ asked) (put_nothing t (Ok at) w)
+  emit_none h = given_found t at ask (λ ps. put (pads lvl ps)) w w (Ok at) t [] w (no_gap h ∙ asked) (put_nothing _ t (Ok at) w)
 
   module _ (h : offset < m.bit_offset) (y : Answer) (u : List ℕ) (ey : ask_in y u ≡ gap_in types B packed m.type_id w) where
     abbrev pads_on : ℕ → Asking (List ℕ) (List Pad)
@@ -66,14 +66,14 @@ module _ (types : ℕ) (B : Rules) (offset : ℕ) (m : Member) (packed : Bool) (
   module _ (h : offset < m.bit_offset) (u : List ℕ) where
     pub emit_gap : (pl : Bool) (p a : ℕ) (r : Placed) (t' : List ℕ) → pl ≡ B.placing → p ≡ B.ptr_sz → ask_in (Ok a) u ≡ gap_in types B packed m.type_id w
         → put_out r t' ≡ put_text t (Ok at) (whole (pads lvl (pads_before pl p offset m.bit_size (m.bit_offset - offset) a)))
-        → out_of r t' u ≡ put_said t (Ok at) (pad_said types B offset m packed lvl w)
+        → out_of r t' u ≡ put_said t (Ok at) (pad_said types B offset m packed lvl) w
     unfolding pad_said ask_in next forget
     emit_gap pl p a r t' el ep g e =
-        given_found t (Ok at) ask (λ ps. put (pads lvl ps)) w u r t' _ u (gap h (Ok a) u g)
-        (put_only t (Ok at) _ u r t' (e ∙ ap₂ (λ (l : Bool) (n : ℕ). put_text t (Ok at) (whole (pads lvl (pads_before l n offset m.bit_size (m.bit_offset - offset) a)))) el ep))
+        given_found t at ask (λ ps. put (pads lvl ps)) w u r t' _ u (gap h (Ok a) u g)
+        (put_only _ t (Ok at) _ u r t' (e ∙ ap₂ (λ (l : Bool) (n : ℕ). put_text t (Ok at) (whole (pads lvl (pads_before l n offset m.bit_size (m.bit_offset - offset) a)))) el ep))
 
-    pub emit_refused : (c : Refusal) (r : Placed) → ask_in {A = ℕ} (Err c) u ≡ gap_in types B packed m.type_id w → IsErrAnd r (λ e. e ≡ c) → out_of r t u ≡ put_said t (Ok at) (pad_said types B offset m packed lvl w)
+    pub emit_refused : (c : Refusal) (r : Placed) → ask_in {A = ℕ} (Err c) u ≡ gap_in types B packed m.type_id w → IsErrAnd r (λ e. e ≡ c) → out_of r t u ≡ put_said t (Ok at) (pad_said types B offset m packed lvl) w
     unfolding pad_said ask_in next
     emit_refused c r g i =
-        given_refused t (Ok at) ask (λ ps. put (pads lvl ps)) w u r t (refusal_number c) (gap h (Err c) u g)
+        given_refused t at ask (λ ps. put (pads lvl ps)) w u r t (refusal_number c) (gap h (Err c) u g)
         (put_ended t r c (cut [] (refusal_number c)) i ∙ sym (put_past t c (cut [] (refusal_number c))) ∙ put_cut t at c)

@@ -136,7 +136,7 @@ module _ (p modes : ℕ) (s : List ℕ) (n : ℕ) (sound : opening_number p s n 
   abbrev State : Type 0
   State = Ls (Known Names)
 
-  abbrev X : Machine State
+  abbrev X : Machine State Names
   X = machine_in p modes s n
 
   inside : (x : ℕ) → x < T.count → x < b.types

@@ -74,7 +74,7 @@ module _ (p modes : ℕ) (s : List ℕ) (n : ℕ) (ok : opening_number p s n ≡
   abbrev T : Table
   T = types_in p modes s n
 
-  abbrev X : Machine State
+  abbrev X : Machine State Names
   X = machine_in p modes s n
 
   -- ---- n ids from x on, under the ceiling c

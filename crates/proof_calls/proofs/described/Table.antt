@@ -23,7 +23,7 @@ use Rattle.spec_c_dumper.specs.rules.Listed.{tags_id, tags_from}
 use Rattle.spec_c_dumper.specs.rules.Names.{Naming}
 use Rattle.spec_c_dumper.specs.rules.Writer.{Said, said}
 use Rattle.spec_c_dumper.specs.rules.Emit.{definition, forward}
-use Rattle.spec_c_dumper.proofs.rules.Related.{RelSaid, same}
+use Rattle.spec_c_dumper.proofs.rules.Related.{RelAll, no_byte, one_byte, RelSaid, same}
 use Rattle.spec_type_table.specs.Documented.{kept}
 use Rattle.spec_type_table.specs.Table as btf
 use Rattle.btf_open_causes.specs.header.Header as header
@@ -70,9 +70,13 @@ tags_list f id (t ∷ l) i h =
     next : (k : ℕ) → f (i + suc k) ≡ get_or l k Void → f (suc i + k) ≡ get_or l k Void
     next k q = let z : suc i + k ≡ i + suc k = omega arith in ap f z ∙ q
 
--- the same names and the same text
+-- the same names, the same text, and the same names at each of its bytes
+held_same : {U : Type 0} {k m : List U} → RelAll (λ (u v : U). u ≡ v) k m → k ≡ m
+held_same no_byte = refl
+held_same (one_byte u v k m r p) = ap₂ (λ (x : _) (l : List _). x ∷ l) r (held_same p)
+
 said_same : {U : Type 0} {a b : Said U} → RelSaid (λ (u v : U). u ≡ v) a b → a ≡ b
-said_same (same u v t r) = ap (λ (w : _). said w t) r
+said_same (same u v t k m r p) = ap₂ (λ (w : _) (l : List _). said w t l) r (held_same p)
 
 -- "pointer size not 4 or 8" is refused
 pub pointer_is : (p : ℕ) → cause1 p ≡ false → pick (eqb p 4) 4 8 ≡ p
@@ -234,8 +238,8 @@ module _ (p modes : ℕ) (s : List ℕ) (n : ℕ) (y : Bytes s) (ok : opening_nu
 
     naming_same : SameNaming Eq Same N N
     naming_same = record {
-      s_type = λ space x x' name i u v r. (λ j. (N.type_version space (i.0 j) name (r j)).version, λ j. (N.type_version space (i.0 j) name (r j)).names);
-      s_value = λ x x' k name i u v r. (λ j. (N.value_version (i.0 j) k name (r j)).version, λ j. (N.value_version (i.0 j) k name (r j)).names);
+      s_type = λ space x x' name i u v r. (λ j. (N.type_version space (i.0 j) name (r j)).passes, λ j. (N.type_version space (i.0 j) name (r j)).version, λ j. (N.type_version space (i.0 j) name (r j)).names);
+      s_value = λ x x' k name i u v r. (λ j. (N.value_version (i.0 j) k name (r j)).passes, λ j. (N.value_version (i.0 j) k name (r j)).version, λ j. (N.value_version (i.0 j) k name (r j)).names);
     }
 
     past : (id : ℕ) → B.type_cnt ≤ id → B.type_by_id id ≡ Void
@@ -263,20 +267,22 @@ module _ (p modes : ℕ) (s : List ℕ) (n : ℕ) (y : Bytes s) (ok : opening_nu
       alias' = λ room k id. line_of room k.text_len (forwards id i k.names);
       leaf' = λ room k id. line_of room k.text_len (definitions id i k.names);
       body' = λ room k id. line_of room k.text_len (definitions id i k.names);
+      held' = λ k. k.names;
+      leaving' = λ held k. record { names = N.leaving held k.names; text_len = k.text_len };
     }
 
     -- what is said of the machine, the types and their count over the table that opening gives holds over the described one
-    pub over_described : (P : Machine (Ls (Known U)) → Table → ℕ → Type 0) → P (machine_by N B) (table_of B) B.type_cnt → P (machine_by N (table_in p modes s)) (table_of (table_in p modes s)) (table_in p modes s).type_cnt
+    pub over_described : (P : Machine (Ls (Known U)) U → Table → ℕ → Type 0) → P (machine_by N B) (table_of B) B.type_cnt → P (machine_by N (table_in p modes s)) (table_of (table_in p modes s)) (table_in p modes s).type_cnt
     over_described P h =
         subst (λ (X : Rules). P (machine_by N X) (table_of X) X.type_cnt) table_is
-        (subst (λ (L : Lines (Known U)). P (list_machine L) (table_of B) B.type_cnt) lines_same h)
+        (subst (λ (L : Lines (Known U) U). P (list_machine L) (table_of B) B.type_cnt) lines_same h)
 
     -- and of which lines print anything
-    pub over_shown : (P : Machine (Ls (Known U)) → Table → ℕ → (ℕ → Bool) → Type 0) → P (machine_by N B) (table_of B) B.type_cnt (shows_in B)
+    pub over_shown : (P : Machine (Ls (Known U)) U → Table → ℕ → (ℕ → Bool) → Type 0) → P (machine_by N B) (table_of B) B.type_cnt (shows_in B)
         → P (machine_by N (table_in p modes s)) (table_of (table_in p modes s)) (table_in p modes s).type_cnt (shows_in (table_in p modes s))
     over_shown P h =
         subst (λ (X : Rules). P (machine_by N X) (table_of X) X.type_cnt (shows_in X)) table_is
-        (subst (λ (L : Lines (Known U)). P (list_machine L) (table_of B) B.type_cnt (shows_in B)) lines_same h)
+        (subst (λ (L : Lines (Known U) U). P (list_machine L) (table_of B) B.type_cnt (shows_in B)) lines_same h)
 
   pub described_wf : WF (table_of (table_in p modes s))
   described_wf = subst (λ (X : Rules). WF (table_of X)) table_is wf

@@ -29,9 +29,9 @@ pub record BothCauses {M₁ M : Type 0} (Q : M₁ → M → Type 0) (t₁ : Caus
   pub same_count : t₁.count ≡ t.count
   pub same_list : t₁.list ≡ t.list
 
-module _ {M₁ M : Type 0} (X₁ : Machine M₁) (X : Machine M) (T : Table) (Good : M → Type 0) (ml : MLawful X Good T.count) (below : (x y : ℕ) → Memᴰ y (kids (T.node x)) → y < T.count) (Q : M₁ → M → Type 0)
-    (al : AlikeMachine X₁ X T.count Good Q) (shows : ℕ → Bool) where
-  steps : AlikeSteps X₁ X T.count Q
+module _ {M₁ H₁ M H : Type 0} (X₁ : Machine M₁ H₁) (X : Machine M H) (T : Table) (Good : M → Type 0) (ml : MLawful X Good T.count) (below : (x y : ℕ) → Memᴰ y (kids (T.node x)) → y < T.count) (Q : M₁ → M → Type 0)
+    (RH : H₁ → H → Type 0) (al : AlikeMachine X₁ X T.count Good Q RH) (shows : ℕ → Bool) where
+  steps : AlikeSteps X₁ X T.count Q RH
   steps = record {
     a_eget = al.a_eget;
     a_emark = al.a_emark;
@@ -41,6 +41,7 @@ module _ {M₁ M : Type 0} (X₁ : Machine M₁) (X : Machine M) (T : Table) (Go
     a_alias = al.a_alias;
     a_leaf = al.a_leaf;
     a_body = al.a_body;
+    a_held = al.a_held;
   }
 
   abbrev Lives : M₁ → M → Type 0
@@ -58,22 +59,22 @@ module _ {M₁ M : Type 0} (X₁ : Machine M₁) (X : Machine M) (T : Table) (Go
 
   module _ (more : ℕ → Bool) where
     module _ (t₁ : Explaining M₁) (t : Explaining M) (h : BothTold Q t₁ t) where
-      dropped_alike : (e : ℕ) → BothTold Q (dropped X₁ T more shows t₁ e) (dropped X T more shows t e)
+      dropped_alike : (m₁ : H₁) (m : H) → RH m₁ m → (e : ℕ) → BothTold Q (dropped X₁ T more shows t₁ m₁ e) (dropped X T more shows t m e)
       unfolding dropped shut
-      dropped_alike e = record {
-        answers = record { same_number = refl; sessions = record { same_open = refl; same_asked = h.answers.sessions.same_asked; alike = h.answers.sessions.alike } };
+      dropped_alike m₁ m r e = record {
+        answers = record { same_number = refl; sessions = record { same_open = refl; same_asked = h.answers.sessions.same_asked; alike = al.a_leaving m₁ m r t₁.answer.sess.mach t.answer.sess.mach h.answers.sessions.alike } };
         same_entries = h.same_entries;
         same_zeroed = refl;
       }
 
-      emitted_alike : (x : ℕ) {r₁ : Out (Traced M₁)} {r : Out (Traced M)} → BothOut (SameNoted Q) r₁ r → BothTold Q (emitted_traced X₁ T more shows t₁ x r₁) (emitted_traced X T more shows t x r)
+      emitted_alike : (x : ℕ) {r₁ : Out (Traced M₁) H₁} {r : Out (Traced M) H} → BothOut (SameNoted Q) RH r₁ r → BothTold Q (emitted_traced X₁ T more shows t₁ x r₁) (emitted_traced X T more shows t x r)
       unfolding emitted_traced
       emitted_alike x (both_wrote m₁ m q) = record {
         answers = record { same_number = refl; sessions = record { same_open = refl; same_asked = ap (λ (k : List ℕ). k ++ (x ∷ [])) h.answers.sessions.same_asked; alike = q.related } };
         same_entries = q.same_entries;
         same_zeroed = refl;
       }
-      emitted_alike x (both_stuck e) = dropped_alike e
+      emitted_alike x (both_stuck m₁ m r e) = dropped_alike m₁ m r e
 
       ordered_alike : (x : ℕ) {r₁ : Res (WithLeaders M₁)} {r : Res (WithLeaders M)} → BothLeaders Lives r₁ r → BothTold Q (ordered_traced X₁ T more shows t₁ x r₁) (ordered_traced X T more shows t x r)
       unfolding ordered_traced
@@ -81,10 +82,10 @@ module _ {M₁ M : Type 0} (X₁ : Machine M₁) (X : Machine M) (T : Table) (Go
           let n₁ : Traced M₁ = record { mach = m₁.state; entries = t₁.entries } in
           let n : Traced M = record { mach = m.state; entries = t.entries } in
           emitted_alike x
-          (subst (λ (k : List ℕ). BothOut (SameNoted Q) (each_listed X₁ T more shows (listed_entry x m₁.leaders) k n₁) (each_listed X T more shows (listed_entry x m.leaders) (X.store.list m.state) n)) (sym (al.a_list m₁.state m.state w.related))
-          (subst (λ (k : List (ℕ × ℕ)). BothOut (SameNoted Q) (each_listed X₁ T more shows (listed_entry x k) (X.store.list m.state) n₁) (each_listed X T more shows (listed_entry x m.leaders) (X.store.list m.state) n)) (sym q)
-          (listed_alike X₁ X T below Q steps more shows (listed_entry x m.leaders) (X.store.list m.state) w.ids n₁ n (record { related = w.related; same_entries = h.same_entries }))))
-      ordered_alike x (neither_leader e) = dropped_alike e
+          (subst (λ (k : List ℕ). BothOut (SameNoted Q) RH (each_listed X₁ T more shows (listed_entry x m₁.leaders) k n₁) (each_listed X T more shows (listed_entry x m.leaders) (X.store.list m.state) n)) (sym (al.a_list m₁.state m.state w.related))
+          (subst (λ (k : List (ℕ × ℕ)). BothOut (SameNoted Q) RH (each_listed X₁ T more shows (listed_entry x k) (X.store.list m.state) n₁) (each_listed X T more shows (listed_entry x m.leaders) (X.store.list m.state) n)) (sym q)
+          (listed_alike X₁ X T below Q RH steps more shows (listed_entry x m.leaders) (X.store.list m.state) w.ids n₁ n (record { related = w.related; same_entries = h.same_entries }))))
+      ordered_alike x (neither_leader e) = dropped_alike (X₁.held t₁.answer.sess.mach) (X.held t.answer.sess.mach) (al.a_held t₁.answer.sess.mach t.answer.sess.mach h.answers.sessions.alike) e
 
       gate_alike : (room x : ℕ) (o b : Bool) → ltb x T.count ≡ b → BothTold Q (gate_traced X₁ T more shows room t₁ x o b) (gate_traced X T more shows room t x o b)
       unfolding gate_traced

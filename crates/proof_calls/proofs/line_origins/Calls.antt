@@ -50,7 +50,7 @@ module _ (p modes : ℕ) (s : List ℕ) (n : ℕ) (ok : opening_number p s n ≡
   abbrev State : Type 0
   State = Ls (Known Names)
 
-  abbrev X : Machine State
+  abbrev X : Machine State Names
   X = machine_in p modes s n
 
   -- a call d that is lent the list l after the requests `told`, on a text slice of `room` bytes, and what the rules come to

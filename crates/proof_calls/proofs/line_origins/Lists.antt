@@ -41,20 +41,20 @@ record Asks {M : Type 0} (told : Explaining M) (x : ℕ) (t : Explaining M) : Ty
   accepted : t.answer.sess.is_open ≡ true → t.answer.number ≡ 0 → t.answer.sess.asked ≡ told.answer.sess.asked ++ (x ∷ [])
   not_so : (t.answer.number ≡ 0 → ⊥) → t.answer.sess.asked ≡ told.answer.sess.asked
 
-module _ {M : Type 0} (X : Machine M) (T : Table) (more shows : ℕ → Bool) (told : Explaining M) (x : ℕ) where
-  dropped_asks : (e : ℕ) → Asks told x (dropped X T more shows told e)
+module _ {M H : Type 0} (X : Machine M H) (T : Table) (more shows : ℕ → Bool) (told : Explaining M) (x : ℕ) where
+  dropped_asks : (h : H) (e : ℕ) → Asks told x (dropped X T more shows told h e)
   unfolding dropped shut
-  dropped_asks e = record { accepted = λ o q. absurd (true≢false (sym o)); not_so = λ q. refl }
+  dropped_asks h e = record { accepted = λ o q. absurd (true≢false (sym o)); not_so = λ q. refl }
 
-  emitted_asks : (o : Out (Traced M)) → Asks told x (emitted_traced X T more shows told x o)
+  emitted_asks : (o : Out (Traced M) H) → Asks told x (emitted_traced X T more shows told x o)
   unfolding emitted_traced
   emitted_asks (wrote m) = record { accepted = λ o q. refl; not_so = λ q. absurd (q refl) }
-  emitted_asks (stuck e) = dropped_asks e
+  emitted_asks (stuck h e) = dropped_asks h e
 
   ordered_asks : (r : Res (WithLeaders M)) → Asks told x (ordered_traced X T more shows told x r)
   unfolding ordered_traced
   ordered_asks (ok s b) = emitted_asks (each_listed X T more shows (listed_entry x s.leaders) (X.store.list s.state) (record { mach = s.state; entries = told.entries }))
-  ordered_asks (refused e) = dropped_asks e
+  ordered_asks (refused e) = dropped_asks (X.held told.answer.sess.mach) e
 
   gate_asks : (room : ℕ) (o b : Bool) → Asks told x (gate_traced X T more shows room told x o b)
   unfolding gate_traced
@@ -89,7 +89,7 @@ module _ (p modes : ℕ) (s : List ℕ) (n : ℕ) (ok : opening_number p s n ≡
   abbrev State : Type 0
   State = Ls (Known Names)
 
-  abbrev X : Machine State
+  abbrev X : Machine State Names
   X = machine_in p modes s n
 
   -- a call d for some ids after k accepted ones, lent the list l after the requests `told`, and what the rules come to

@@ -36,16 +36,16 @@ use Rattle.spec_session.specs.origin_calls.Bytes.{dumped_traced, Reached, entrie
 use Rattle.spec_session.proofs.origin_calls.Bytes.{dumped_lined}
 use Rattle.proof_calls.proofs.line_origins.Request.{BothTold, request_traced}
 
-abbrev number_in : Out Slices → ℕ
+abbrev number_in : Out Slices (Unit {0}) → ℕ
 number_in (wrote m) = 0
-number_in (stuck c) = c
+number_in (stuck h c) = c
 
 -- ---- a request in a list of c entries, of which es are there: no number 0, and no more entries than there is room for
-module _ (c : ℕ) (es : List Entry) (l : length es ≤ c) (F : (ℕ → Bool) → Out (Traced Slices)) (P : Out Slices) (h : Lined ⊥ (length es) F P) where
-  lined_positive : ((k : ℕ) → P ≡ stuck k → 0 < k) → (k : ℕ) → forget (F (up_to c)) ≡ stuck k → 0 < k
+module _ (c : ℕ) (es : List Entry) (l : length es ≤ c) (F : (ℕ → Bool) → Out (Traced Slices) (Unit {0})) (P : Out Slices (Unit {0})) (h : Lined ⊥ (length es) F P) where
+  lined_positive : ((k : ℕ) → P ≡ stuck tt k → 0 < k) → (k : ℕ) → forget (F (up_to c)) ≡ stuck tt k → 0 < k
   unfolding forget
   lined_positive p k q = ⊎_elim
-      (λ f. let z : 17 ≡ k = ap number_in (ap forget (sym (h.short c l f)) ∙ q) in omega arith)
+      (λ f. let z : 17 ≡ k = ap number_in (ap forget (sym (h.short c l f).1) ∙ q) in omega arith)
       (λ f. p k (sym h.same ∙ ap forget (sym (h.fits c f)) ∙ q))
       (cases_lt c h.need)
 
@@ -53,12 +53,12 @@ module _ (c : ℕ) (es : List Entry) (l : length es ≤ c) (F : (ℕ → Bool) �
   unfolding entries_after
   lined_held = go (F (up_to c)) refl
     where
-      go : (o : Out (Traced Slices)) → F (up_to c) ≡ o → length (entries_after es o) ≤ c
+      go : (o : Out (Traced Slices) (Unit {0})) → F (up_to c) ≡ o → length (entries_after es o) ≤ c
       go (wrote m) q = ⊎_elim
-          (λ f. let y : wrote m ≡ stuck 17 = sym q ∙ h.short c l f in absurd (let z : ◌≡◌ {A = ℕ} 0 1 = cc in omega arith))
+          (λ f. let y : wrote m ≡ stuck (h.short c l f).0 17 = sym q ∙ (h.short c l f).1 in absurd (let z : ◌≡◌ {A = ℕ} 0 1 = cc in omega arith))
           (λ f. let z : length m.entries ≡ h.need = h.counts m (sym (h.fits c f) ∙ q) in omega arith)
           (cases_lt c h.need)
-      go (stuck k) q = l
+      go (stuck u k) q = l
 
 module _ (p modes : ℕ) (s : List ℕ) (n : ℕ) (ok : opening_number p s n ≡ 0) where
   abbrev b : TypeTable
@@ -79,7 +79,7 @@ module _ (p modes : ℕ) (s : List ℕ) (n : ℕ) (ok : opening_number p s n ≡
   abbrev State : Type 0
   State = Ls (Known Names)
 
-  abbrev X : Machine State
+  abbrev X : Machine State Names
   X = machine_in p modes s n
 
   -- c: how many entries the lent list has room for
@@ -100,7 +100,7 @@ module _ (p modes : ℕ) (s : List ℕ) (n : ℕ) (ok : opening_number p s n ≡
     abbrev slices : Slices
     slices = record { work = v; text = lent_to len t; at = 0; len = 0 }
 
-    abbrev out : Out (Traced Slices)
+    abbrev out : Out (Traced Slices) (Unit {0})
     out = dumped_traced (work_machine b B) T (up_to c) (shows_in B) slices es x
 
     abbrev told' : Explaining State

@@ -25,7 +25,7 @@ use Rattle.proof_demands.specs.name_counts.Alike.{Alike}
 use Rattle.proof_demands.specs.alignment_memory.Work.{Sane}
 use Rattle.proof_demands.specs.demands.Representation.{Bears, Shows, BothRequest, both_refused}
 use Rattle.proof_demands.proofs.demands.Start.{start_step}
-use Rattle.proof_demands.proofs.demands.Request.{Related, alike_store, alike_steps, list_same, emitted_alike}
+use Rattle.proof_demands.proofs.demands.Request.{untold, Related, alike_store, alike_steps, list_same, emitted_alike}
 use Rattle.spec_c_dumper.specs.origins.Causes.{WithLeaders, order_with_leaders, listed_entry, Traced, each_listed, Explaining, dropped, emitted_traced, ordered_traced}
 use Rattle.spec_c_dumper.specs.origins.Claims.{forget}
 use Rattle.spec_session.specs.origin_calls.Bytes.{listed_traced, dumped_traced, entries_after}
@@ -44,14 +44,17 @@ module _ (b : TypeTable) (e : ℕ) (s w : List ℕ) (I : Indexed b e s w) (Z : S
   abbrev State : Type 0
   State = Ls (Known Names)
 
-  abbrev X₁ : Machine Slices
+  abbrev X₁ : Machine Slices (Unit {0})
   X₁ = work_machine b B
 
-  abbrev X : Machine State
+  abbrev X : Machine State Names
   X = machine_by N B
 
   abbrev Rel : Slices → State → Type 0
   Rel m t = Related b e s w I Z N R wf front room m t
+
+  abbrev Untold : Unit {0} → Names → Type 0
+  Untold h u = untold b e s w I Z N R wf front room h u
 
   abbrev lawful : MLawful X (Sized T.count) T.count
   lawful = machine_lawful N B T.count
@@ -68,29 +71,29 @@ module _ (b : TypeTable) (e : ℕ) (s w : List ℕ) (I : Indexed b e s w) (Z : S
     abbrev S : Sess State
     S = told.answer.sess
 
-    pub record BothTold (o : Out (Traced Slices)) (t : Explaining State) : Type 0 where
+    pub record BothTold (o : Out (Traced Slices) (Unit {0})) (t : Explaining State) : Type 0 where
       pub answers : BothRequest b e s w front room S x (forget o) t.answer
       pub same_entries : entries_after told.entries o ≡ t.entries
       pub zeroed : t.zeroed ≡ true
 
-    abbrev last : Traced Slices → Out (Traced Slices)
+    abbrev last : Traced Slices → Out (Traced Slices) (Unit {0})
     last k = wrote (record { mach = X₁.start 0 k.mach; entries = k.entries })
 
-    emitted_traced_lem : {r₁ : Out (Traced Slices)} {r : Out (Traced State)} → BothOut (SameNoted Rel) r₁ r → BothTold (obind r₁ last) (emitted_traced X T more shows told x r)
+    emitted_traced_lem : {r₁ : Out (Traced Slices) (Unit {0})} {r : Out (Traced State) Names} → BothOut (SameNoted Rel) Untold r₁ r → BothTold (obind r₁ last) (emitted_traced X T more shows told x r)
     unfolding obind forget entries_after emitted_traced emitted dropped shut
     emitted_traced_lem (both_wrote m t q) = record { answers = emitted_alike b e s w I Z N R wf front room S x (both_wrote m.mach t.mach q.related); same_entries = q.same_entries; zeroed = refl }
-    emitted_traced_lem (both_stuck c) = record { answers = emitted_alike b e s w I Z N R wf front room S x (both_stuck c); same_entries = refl; zeroed = refl }
+    emitted_traced_lem (both_stuck m u q c) = record { answers = emitted_alike b e s w I Z N R wf front room S x (both_stuck m u q c); same_entries = refl; zeroed = refl }
 
-    ordered_traced_lem : {r₁ : Res (WithLeaders Slices)} {r : Res (WithLeaders State)} → BothLeaders Lives r₁ r → BothTold (listed_traced X₁ T more shows x told.entries r₁) (ordered_traced X T more shows told x r)
+    ordered_traced_lem : {r₁ : Res (WithLeaders Slices)} {r : Res (WithLeaders State)} → BothLeaders Lives r₁ r → BothTold (listed_traced X₁ T more shows tt x told.entries r₁) (ordered_traced X T more shows told x r)
     unfolding listed_traced ordered_traced dropped shut forget entries_after
     ordered_traced_lem (both_leaders m t c h q) =
         let m' : Traced Slices = record { mach = m.state; entries = told.entries } in
         let t' : Traced State = record { mach = t.state; entries = told.entries } in
         emitted_traced_lem
-        (subst (λ (k : List ℕ). BothOut (SameNoted Rel) (each_listed X₁ T more shows (listed_entry x m.leaders) k m') (each_listed X T more shows (listed_entry x t.leaders) (X.store.list t.state) t')) (sym (list_same b e s w I Z N R wf front room m.state t.state h.related))
-        (subst (λ (k : List (ℕ × ℕ)). BothOut (SameNoted Rel) (each_listed X₁ T more shows (listed_entry x k) (X.store.list t.state) m') (each_listed X T more shows (listed_entry x t.leaders) (X.store.list t.state) t')) (sym q)
-        (listed_alike X₁ X T wf.below Rel (alike_steps b e s w I Z N R wf front room) more shows (listed_entry x t.leaders) (X.store.list t.state) h.ids m' t' (record { related = h.related; same_entries = refl }))))
-    ordered_traced_lem (neither_leader c) = record { answers = both_refused c; same_entries = refl; zeroed = refl }
+        (subst (λ (k : List ℕ). BothOut (SameNoted Rel) Untold (each_listed X₁ T more shows (listed_entry x m.leaders) k m') (each_listed X T more shows (listed_entry x t.leaders) (X.store.list t.state) t')) (sym (list_same b e s w I Z N R wf front room m.state t.state h.related))
+        (subst (λ (k : List (ℕ × ℕ)). BothOut (SameNoted Rel) Untold (each_listed X₁ T more shows (listed_entry x k) (X.store.list t.state) m') (each_listed X T more shows (listed_entry x t.leaders) (X.store.list t.state) t')) (sym q)
+        (listed_alike X₁ X T wf.below Rel Untold (alike_steps b e s w I Z N R wf front room) more shows (listed_entry x t.leaders) (X.store.list t.state) h.ids m' t' (record { related = h.related; same_entries = refl }))))
+    ordered_traced_lem (neither_leader c) = record { answers = both_refused c (X.leaving (X.held S.mach) S.mach) refl refl; same_entries = refl; zeroed = refl }
 
     -- m: the sheet of the request, with an empty order list
     pub request_traced : (m : Slices) → m.len ≡ 0 → Bears b e s w m.work 0 (X.start 0 S.mach) → Shows b e s w front m.text m.at (X.start room S.mach) → x < b.types

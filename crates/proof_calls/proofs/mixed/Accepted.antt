@@ -19,7 +19,8 @@ use Rattle.spec_c_dumper.proofs.origins.Emission.{emit_lined, each_lined}
 use Rattle.spec_c_dumper.proofs.origins.Requests.{single_fits}
 use Rattle.proof_calls.specs.ceilings.Ceilings.{ones_from}
 
-module _ {M : Type 0} (X : Machine M) (T : Table) (shows : ℕ → Bool) (nz : Numbered X) (size c : ℕ) where
+-- a refused request leaves the machine as it was
+module _ {M H : Type 0} (X : Machine M H) (T : Table) (shows : ℕ → Bool) (nz : Numbered X) (stays : (h : H) (m : M) → X.leaving h m ≡ m) (size c : ℕ) where
   -- what a request comes to: one more is accepted; or none, and 17 closes an open session
   pub data Came (x : ℕ) (t u : Explaining M) : Type 0 where
     more : u.answer.number ≡ 0 → u.answer.sess.asked ≡ t.answer.sess.asked ++ (x ∷ []) → u.answer.sess.is_open ≡ true → Came x t u
@@ -30,24 +31,24 @@ module _ {M : Type 0} (X : Machine M) (T : Table) (shows : ℕ → Bool) (nz : N
     abbrev begun : WithLeaders M → Traced M
     begun s = record { mach = s.state; entries = t.entries }
 
-    listed_not : (s : WithLeaders M) → each_listed X T (up_to c) shows (listed_entry x s.leaders) (X.store.list s.state) (begun s) ≡ stuck 0 → ⊥
-    listed_not s e =
+    listed_not : (s : WithLeaders M) (m : H) → each_listed X T (up_to c) shows (listed_entry x s.leaders) (X.store.list s.state) (begun s) ≡ stuck m 0 → ⊥
+    listed_not s m e =
         let h = each_lined (Numbered X) (λ r m y. emit_traced X r shows (listed_entry x s.leaders) T 512 m y 0) (λ m y. emit X T 512 m y 0) (λ m y. emit_lined X shows (listed_entry x s.leaders) T 512 m y 0) (X.store.list s.state) (begun s) in
-        ⊎_elim (λ q. let z : stuck 17 ≡ stuck 0 = sym (h.short c few q) ∙ e in let y : ◌≡◌ {A = ℕ} 17 0 = cc in omega arith) (λ q. h.numbered nz (sym (h.fits c q) ∙ e)) (cases_lt c h.need)
+        ⊎_elim (λ q. let z : stuck (h.short c few q).0 17 ≡ stuck m 0 = sym (h.short c few q).1 ∙ e in let y : ◌≡◌ {A = ℕ} 17 0 = cc in omega arith) (λ q. h.numbered nz m (sym (h.fits c q) ∙ e)) (cases_lt c h.need)
 
-    dropped_came : t.answer.sess.is_open ≡ true → (e : ℕ) → (e ≡ 0 → ⊥) → Came x t (dropped X T (up_to c) shows t e)
+    dropped_came : t.answer.sess.is_open ≡ true → (m : H) (e : ℕ) → (e ≡ 0 → ⊥) → Came x t (dropped X T (up_to c) shows t m e)
     unfolding dropped shut
-    dropped_came o e z = none z refl refl (λ q. (refl, o))
+    dropped_came o m e z = none z (stays m t.answer.sess.mach) refl (λ q. (refl, o))
 
-    emitted_came : t.answer.sess.is_open ≡ true → (r : Out (Traced M)) → (r ≡ stuck 0 → ⊥) → Came x t (emitted_traced X T (up_to c) shows t x r)
+    emitted_came : t.answer.sess.is_open ≡ true → (r : Out (Traced M) H) → ((m : H) → r ≡ stuck m 0 → ⊥) → Came x t (emitted_traced X T (up_to c) shows t x r)
     unfolding emitted_traced
     emitted_came o (wrote m) z = more refl refl refl
-    emitted_came o (stuck e) z = dropped_came o e (λ q. z (ap stuck q))
+    emitted_came o (stuck m e) z = dropped_came o m e (λ q. z m (ap (stuck m) q))
 
     ordered_came : t.answer.sess.is_open ≡ true → (r : Res (WithLeaders M)) → NotNone r → Came x t (ordered_traced X T (up_to c) shows t x r)
     unfolding ordered_traced
     ordered_came o (ok s b) z = emitted_came o (each_listed X T (up_to c) shows (listed_entry x s.leaders) (X.store.list s.state) (begun s)) (listed_not s)
-    ordered_came o (refused e) (stopped z) = dropped_came o e z
+    ordered_came o (refused e) (stopped z) = dropped_came o (X.held t.answer.sess.mach) e z
 
     gate_came : (o b : Bool) → t.answer.sess.is_open ≡ o → Came x t (gate_traced X T (up_to c) shows size t x o b)
     unfolding gate_traced

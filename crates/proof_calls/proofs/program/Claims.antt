@@ -66,7 +66,7 @@ program_described s y ok =
     refl
     ∙ sym (program_is (table_in 8 0 s))
   where
-    prints : Machine (Ls (Known Names)) → Table → ℕ → List ℕ
+    prints : Machine (Ls (Known Names)) Names → Table → ℕ → List ℕ
     prints X T m =
         let a = every X T 65536 (record { is_open = true; mach = afresh m (record { names = record { versions = replicate m 0; ledger = [] }; text_len = 0 }); asked = [] }) true in
         prints_of a.number (text_of a.sess.mach.pieces)

@@ -5,10 +5,10 @@ use mathlib.Core.Bool.{Bool, true, false}
 use mathlib.Core.List.{List}
 use lib.Dec.{ltb}
 use Rattle.spec_bytes.specs.text.Text.{Text}
-use Rattle.spec_c_dumper.specs.rules.Writer.{Said, said, said_text, said_names}
+use Rattle.spec_c_dumper.specs.rules.Writer.{Said, said, said_text, said_names, said_held}
 use Rattle.spec_c_dumper.specs.rules.Types.{Btf as Rules}
 use Rattle.spec_c_dumper.specs.rules.Emit.{definition, forward}
-use Rattle.spec_c_dumper.proofs.rules.Related.{RelSaid, same, rel_text, rel_names}
+use Rattle.spec_c_dumper.proofs.rules.Related.{RelAll, RelSaid, same, rel_text, rel_names, rel_held, rel_each}
 use Rattle.spec_type_table.specs.declared.types.TypeTable.{TypeTable}
 use Rattle.spec_type_table.specs.Table.{work_naming}
 use Rattle.spec_c_dumper.specs.alignment_once.Once.{Known, paid_to}
@@ -20,15 +20,10 @@ use Rattle.proof_demands.specs.alignment_memory.Work.{Agree, SoundMemory, Sane}
 use Rattle.proof_demands.proofs.alignment_memory.Work.{Memory, InWork, work_sound}
 
 -- ---- what is said, by its parts
-unfold_said : {U : Type 0} (s : Said U) → said (said_names s) (said_text s) ≡ s
-unfolding said_names said_text
-unfold_said (said u x) = refl
-
-pub both_said : {U W : Type 0} (R : U → W → Type 0) (s₁ : Said U) (s₂ : Said W) → R (said_names s₁) (said_names s₂) → said_text s₁ ≡ said_text s₂ → RelSaid R s₁ s₂
-both_said R s₁ s₂ r e =
-    subst (λ (x : Said _). RelSaid R x s₂) (unfold_said s₁)
-    (subst (λ (y : Said _). RelSaid R (said (said_names s₁) (said_text s₁)) y) (unfold_said s₂)
-    (subst (λ (z : Text). RelSaid R (said (said_names s₁) (said_text s₁)) (said (said_names s₂) z)) e (same (said_names s₁) (said_names s₂) (said_text s₁) r)))
+pub both_said : {U W : Type 0} (R : U → W → Type 0) (s₁ : Said U) (s₂ : Said W) → R (said_names s₁) (said_names s₂) → said_text s₁ ≡ said_text s₂ → RelAll R (said_held s₁) (said_held s₂)
+    → RelSaid R s₁ s₂
+unfolding said_names said_text said_held
+both_said R (said u x k) (said w y m) r e p = subst (λ (z : Text). RelSaid R (said u x k) (said w z m)) e (same u w x k m r p)
 
 -- what writes other words than the memory's keeps it
 module _ (B : Rules) (w w₂ : List ℕ) (h : Memory w₂ w) where
@@ -50,14 +45,15 @@ module _ (b : TypeTable) (B : Rules) (Z : Sane b B) where
   itself : (w : List ℕ) → SoundMemory B w → Rel w w
   itself w m = (record { long = refl; words = λ i n k. refl }, m.right, (m.roomy, m.count))
 
-  -- the text, all words but the memory's, and the memory after it
+  -- the text, all words but the memory's, at each byte of it and after it, and the memory after it
   pub record Says (s₁ s₀ : Said (List ℕ)) : Type 0 where
     pub text : said_text s₁ ≡ said_text s₀
     pub words : Agree (said_names s₁) (said_names s₀)
+    pub held : RelAll Agree (said_held s₁) (said_held s₀)
     pub memory : SoundMemory B (said_names s₁)
 
   says : {s₁ s₀ : Said (List ℕ)} → RelSaid Rel s₁ s₀ → Says s₁ s₀
-  says r = let n = rel_names Rel r in record { text = rel_text Rel r; words = n.0; memory = record { right = n.1; roomy = n.2.0; count = n.2.1 } }
+  says r = let n = rel_names Rel r in record { text = rel_text Rel r; words = n.0; held = rel_each Rel Agree (λ w u q. q.0) (rel_held Rel r); memory = record { right = n.1; roomy = n.2.0; count = n.2.1 } }
 
   pub definition_says : (id : ℕ) (w : List ℕ) → SoundMemory B w → Says (definition_once (work_asks B.type_cnt B) (work_naming b) B id (B.type_by_id id) w) (definition (work_naming b) B id (B.type_by_id id) w)
   definition_says id w m =

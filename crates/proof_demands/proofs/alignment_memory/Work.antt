@@ -197,7 +197,7 @@ module _ (b : TypeTable) (some : 1 ≤ b.types) (B : Rules) (small : B.ptr_sz �
     typed : (id : ℕ) → RelResolved InWork (type_version_in b.types id w) (type_version_in b.types id u)
     unfolding type_version_in
     typed id =
-        subst (λ (y : ℕ). RelResolved InWork (elim (eqb y 0) as (λ z. Resolved (List ℕ)) [ false ↦ record { version = y; names = w } | true ↦ record { version = given id; names = put_field (after w id) id 4 (given id) } ]) (type_version_in b.types id u))
+        subst (λ (y : ℕ). RelResolved InWork (elim (eqb y 0) as (λ z. Resolved (List ℕ)) [ false ↦ record { passes = false; version = y; names = w } | true ↦ record { passes = false; version = given id; names = put_field (after w id) id 4 (given id) } ]) (type_version_in b.types id u))
         (sym (p.0.words (id * 16 + 4) (λ q. omega (arith, q)) (λ q. omega (arith, q)))) (by (eqb (get_field u id 4) 0))
       where
         named : Agree (put_field (after w id) id 4 (given id)) (put_field (after u id) id 4 (number_at b.types u id))
@@ -205,10 +205,11 @@ module _ (b : TypeTable) (some : 1 ≤ b.types) (B : Rules) (small : B.ptr_sz �
             subst (λ (x : ℕ). Agree (put_field (after w id) id 4 x) (put_field (after u id) id 4 (number_at b.types u id))) (sym (number_same b.types some w id u p.0))
             (agree_put (after w id) (after u id) (counted_agree b.types some w id u p.0) (id * 16 + 4) (number_at b.types u id))
 
-        by : (t : Bool) → RelResolved InWork (elim t as (λ z. Resolved (List ℕ)) [ false ↦ record { version = get_field u id 4; names = w } | true ↦ record { version = given id; names = put_field (after w id) id 4 (given id) } ])
-            (elim t as (λ z. Resolved (List ℕ)) [ false ↦ record { version = get_field u id 4; names = u } | true ↦ record { version = number_at b.types u id; names = put_field (after u id) id 4 (number_at b.types u id) } ])
-        by false = (refl, p)
+        by : (t : Bool) → RelResolved InWork (elim t as (λ z. Resolved (List ℕ)) [ false ↦ record { passes = false; version = get_field u id 4; names = w } | true ↦ record { passes = false; version = given id; names = put_field (after w id) id 4 (given id) } ])
+            (elim t as (λ z. Resolved (List ℕ)) [ false ↦ record { passes = false; version = get_field u id 4; names = u } | true ↦ record { passes = false; version = number_at b.types u id; names = put_field (after u id) id 4 (number_at b.types u id) } ])
+        by false = (refl, refl, p)
         by true = (
+          refl,
           number_same b.types some w id u p.0,
           with_memory (put_field (after w id) id 4 (given id)) (put_field (after u id) id 4 (number_at b.types u id)) named
               (memory_then (put_field (after w id) id 4 (given id)) (after w id) w (memory_put (after w id) (id * 16 + 4) (given id) (λ q. omega (arith, q)) (λ q. omega (arith, q))) (memory_counted b.types some w id)),
@@ -218,10 +219,10 @@ module _ (b : TypeTable) (some : 1 ≤ b.types) (B : Rules) (small : B.ptr_sz �
     unfolding value_version_in
     valued e = by (ltb (b.types + e) 4294967296)
       where
-        by : (t : Bool) → RelResolved InWork (elim t as (λ z. Resolved (List ℕ)) [ true ↦ record { version = given (b.types + e); names = after w (b.types + e) } | false ↦ record { version = 0; names = w } ])
-            (elim t as (λ z. Resolved (List ℕ)) [ true ↦ record { version = number_at b.types u (b.types + e); names = after u (b.types + e) } | false ↦ record { version = 0; names = u } ])
-        by true = (number_same b.types some w (b.types + e) u p.0, with_memory (after w (b.types + e)) (after u (b.types + e)) (counted_agree b.types some w (b.types + e) u p.0) (memory_counted b.types some w (b.types + e)))
-        by false = (refl, p)
+        by : (t : Bool) → RelResolved InWork (elim t as (λ z. Resolved (List ℕ)) [ true ↦ record { passes = false; version = given (b.types + e); names = after w (b.types + e) } | false ↦ record { passes = false; version = 0; names = w } ])
+            (elim t as (λ z. Resolved (List ℕ)) [ true ↦ record { passes = false; version = number_at b.types u (b.types + e); names = after u (b.types + e) } | false ↦ record { passes = false; version = 0; names = u } ])
+        by true = (refl, number_same b.types some w (b.types + e) u p.0, with_memory (after w (b.types + e)) (after u (b.types + e)) (counted_agree b.types some w (b.types + e) u p.0) (memory_counted b.types some w (b.types + e)))
+        by false = (refl, refl, p)
 
     enumerated : (id k : ℕ) → RelResolved InWork (value_version_in b.types (enumerator_of w id k) w) (value_version_in b.types (enumerator_of u id k) u)
     enumerated id k =
@@ -230,7 +231,7 @@ module _ (b : TypeTable) (some : 1 ≤ b.types) (B : Rules) (small : B.ptr_sz �
 
   work_named : RelNaming InWork any_name any_value (work_naming b) (work_naming b)
   unfolding work_naming
-  work_named = record { rel_type = λ space id name fit e w u p. typed w u p id; rel_value = λ id k name fit w u p. enumerated w u p id k }
+  work_named = record { rel_type = λ space id name fit e w u p. typed w u p id; rel_value = λ id k name fit w u p. enumerated w u p id k; rel_leaving = λ h x q w u p. p }
 
   -- ---- questions
   agree_remember : (w u : List ℕ) → Agree w u → (id : ℕ) (s : Remembered) → Agree (K.remember id s w) u

@@ -55,7 +55,7 @@ module _ (types : ℕ) (some : 1 ≤ types) where
       u : List ℕ
       u = count_raised (class_p types) (count_p types) v id
 
-      go : (t : Bool) → get_field (elim t as (λ z. Resolved (List ℕ)) [ false ↦ record { version = get_field v id 4; names = v } | true ↦ record { version = n; names = put_field u id 4 n } ]).names j 15 ≡ get_field v j 15
+      go : (t : Bool) → get_field (elim t as (λ z. Resolved (List ℕ)) [ false ↦ record { passes = false; version = get_field v id 4; names = v } | true ↦ record { passes = false; version = n; names = put_field u id 4 n } ]).names j 15 ≡ get_field v j 15
       go false = refl
       go true = get_put_other u (id * 16 + 4) (j * 16 + 15) n (λ q. omega (arith, q)) ∙ counted_other types v id (j * 16 + 15) (not_count j)
 
@@ -63,7 +63,7 @@ module _ (types : ℕ) (some : 1 ≤ types) where
   unfolding value_version_in
   value_aligned k v j = go (ltb (types + k) 4294967296)
     where
-      go : (t : Bool) → get_field (elim t as (λ z. Resolved (List ℕ)) [ true ↦ record { version = number_at types v (types + k); names = count_raised (class_p types) (count_p types) v (types + k) } | false ↦ record { version = 0; names = v } ]).names j 15 ≡ get_field v j 15
+      go : (t : Bool) → get_field (elim t as (λ z. Resolved (List ℕ)) [ true ↦ record { passes = false; version = number_at types v (types + k); names = count_raised (class_p types) (count_p types) v (types + k) } | false ↦ record { passes = false; version = 0; names = v } ]).names j 15 ≡ get_field v j 15
       go false = refl
       go true = counted_other types v (types + k) (j * 16 + 15) (not_count j)
 
@@ -136,8 +136,9 @@ module _ (b : TypeTable) (e : ℕ) (s w : List ℕ) (Z : Sane b (btf_of b s w)) 
   named : RelNaming Pair (NameFits b s w) (FitsValue b s w) (work_naming b) (remembering_names N)
   unfolding work_naming
   named = record {
-    rel_type = λ space id name fit q v u p. let r = R.rel_type space id name fit q v u.names p.0 in (r.0, moved u v _ _ p (type_aligned n Z.some id v) r.1);
-    rel_value = λ id i name fit v u p. let r = R.rel_value id i name fit v u.names p.0 in (r.0, moved u v _ _ p (value_aligned n Z.some (enumerator_of v id i) v) r.1);
+    rel_type = λ space id name fit q v u p. let r = R.rel_type space id name fit q v u.names p.0 in (r.0, r.1, moved u v _ _ p (type_aligned n Z.some id v) r.2);
+    rel_value = λ id i name fit v u p. let r = R.rel_value id i name fit v u.names p.0 in (r.0, r.1, moved u v _ _ p (value_aligned n Z.some (enumerator_of v id i) v) r.2);
+    rel_leaving = λ h x r v u p. (R.rel_leaving h x.names r.0 v u.names p.0, p.1, p.2);
   }
 
   -- ---- questions

@@ -51,10 +51,10 @@ use Rattle.proof_demands.proofs.demands.OpenedMemory.{opened_sane, opened_memory
 use Rattle.proof_demands.proofs.demands.Named.{opened_indexed, opened_names}
 use Rattle.proof_demands.proofs.demands.Session.{Going, begins, positive, table_now, request_reach, BothReach, both_reached, both_ended, table_is, types_is, going, current, type_keeps, types_keeps, made_more, made_none, made_one, not_11, no_ids, after_holds}
 use Rattle.proof_demands.specs.counted.Counted.{defined_first}
-use Rattle.proof_demands.proofs.counted.Request.{Near, near_alike, Recalls, Came, came_served, came_refused, request_came}
+use Rattle.proof_demands.proofs.counted.Request.{NamesBeside, Near, near_alike, Recalls, Came, came_served, came_refused, request_came}
 
 -- ---- a request of any machine, by whether the session is open and the id below the count
-module _ {M : Type 0} (Y : Machine M) (T : Types) (room : ℕ) (S : Sess M) (x : ℕ) where
+module _ {M H : Type 0} (Y : Machine M H) (T : Types) (room : ℕ) (S : Sess M) (x : ℕ) where
   single_open : S.is_open ≡ true → x < T.count → single Y T room S x ≡ ordered Y T S x (ordering Y T room S x)
   unfolding single gate
   single_open o l = ap (λ (f : Bool). gate Y T room S x f (ltb x T.count)) o ∙ ap (gate Y T room S x true) (lt-ltb x T.count l)
@@ -67,7 +67,7 @@ module _ {M : Type 0} (Y : Machine M) (T : Types) (room : ℕ) (S : Sess M) (x :
   unfolding single gate
   single_shut o = ap (λ (f : Bool). gate Y T room S x f (ltb x T.count)) o
 
-run_then : {M : Type 0} (Y : Machine M) (T : Types) (rs qs : List Req) (S : Sess M) → run Y T (rs ++ qs) S ≡ run Y T qs (run Y T rs S)
+run_then : {M H : Type 0} (Y : Machine M H) (T : Types) (rs qs : List Req) (S : Sess M) → run Y T (rs ++ qs) S ≡ run Y T qs (run Y T rs S)
 unfolding run
 run_then Y T [] qs S = refl
 run_then Y T (r ∷ rs) qs S = run_then Y T rs qs (serve Y T S r)
@@ -100,10 +100,10 @@ module _ (p modes : ℕ) (s : List ℕ) (n : ℕ) (ok : opening_number p s n ≡
   abbrev State : Type 0
   State = Ls (Known (Remembering Names Table))
 
-  abbrev X : Machine Plain
+  abbrev X : Machine Plain Names
   X = machine_in p modes s n
 
-  abbrev pub X₂ : Machine State
+  abbrev pub X₂ : Machine State (Remembering Names Table)
   X₂ = machine_once (remembering_asks (table_keep B.type_cnt) B) (remembering_names N) B
 
   pub room_for : HoldsTypes b.types w
@@ -112,6 +112,9 @@ module _ (p modes : ℕ) (s : List ℕ) (n : ℕ) (ok : opening_number p s n ≡
 
   abbrev NearTo : State → Plain → Type 0
   NearTo t q = Near b e s w (opened_indexed p modes s n ok) Z room_for N (opened_names p modes s n ok) (opened_wf p modes s n ok) t q
+
+  abbrev NamesTo : Remembering Names Table → Names → Type 0
+  NamesTo u v = NamesBeside b e s w (opened_indexed p modes s n ok) Z room_for N (opened_names p modes s n ok) (opened_wf p modes s n ok) u v
 
   abbrev Same : List ℕ → State → Type 0
   Same v t = Recalls b e s w (opened_indexed p modes s n ok) Z room_for N (opened_names p modes s n ok) (opened_wf p modes s n ok) v t
@@ -135,18 +138,18 @@ module _ (p modes : ℕ) (s : List ℕ) (n : ℕ) (ok : opening_number p s n ≡
   Beside₂ A L = BothSess NearTo A L
 
   next_near : (room : ℕ) (A : Sess State) (L : Sess Plain) → Beside₂ A L → (x : ℕ) → BothAnswer NearTo (single X₂ T room A x) (single X T room L x)
-  next_near = single_alike X₂ X T (Sized B.type_cnt) (machine_lawful N B B.type_cnt) (opened_wf p modes s n ok).below NearTo (near_alike b e s w (opened_indexed p modes s n ok) Z room_for N (opened_names p modes s n ok) (opened_wf p modes s n ok))
+  next_near = single_alike X₂ X T (Sized B.type_cnt) (machine_lawful N B B.type_cnt) (opened_wf p modes s n ok).below NearTo NamesTo (near_alike b e s w (opened_indexed p modes s n ok) Z room_for N (opened_names p modes s n ok) (opened_wf p modes s n ok))
 
   module _ (len : ℕ) (v t : List ℕ) (room : ℕ) (L : Sess Plain) (g : Going p modes s n ok len v t room L) (A : Sess State) (h : Beside₂ A L) (r : Same v A.mach) (x : ℕ) where
     abbrev slices : Slices
     slices = record { work = v; text = lent_to len t; at = 0; len = 0 }
 
-    came_visits : (u : ℕ) → u ≡ A.mach.known.names.visits → {o : Out Slices} {a : Answer State} → Came b e s w (opened_indexed p modes s n ok) Z room_for N (opened_names p modes s n ok) (opened_wf p modes s n ok) (take len t) room A o a
-        → ((c : ℕ) → o ≡ stuck c → 0 < c) → BothVisits (came_to len u t o) a
+    came_visits : (u : ℕ) → u ≡ A.mach.known.names.visits → {o : Out Slices (Unit {0})} {a : Answer State} → Came b e s w (opened_indexed p modes s n ok) Z room_for N (opened_names p modes s n ok) (opened_wf p modes s n ok) (take len t) room A o a
+        → ((c : ℕ) → o ≡ stuck tt c → 0 < c) → BothVisits (came_to len u t o) a
     unfolding came_to
     came_visits u q (came_served m t' asked y) k = visits_on _ m.work _ _ y
-    came_visits u q (came_refused zero) k = absurd (let z : 0 < 0 = k 0 refl in omega arith)
-    came_visits u q (came_refused (suc c)) k = visits_end c len u _ _ q
+    came_visits u q (came_refused zero y) k = absurd (let z : 0 < 0 = k 0 refl in omega arith)
+    came_visits u q (came_refused (suc c) y) k = visits_end c len u _ _ q
 
     request_visits : (u : ℕ) → u ≡ A.mach.known.names.visits → x < T.count → BothVisits (requested b s x len u v t) (single X₂ T room A x)
     request_visits u q l =
@@ -223,7 +226,7 @@ module _ (p modes : ℕ) (s : List ℕ) (n : ℕ) (ok : opening_number p s n ≡
         by false o = left_kept _ _ _ 11 (type_not_current S s work text x (closed_stays S s work text (h.is_open ∙ o))) (single_shut X T room L x o) (single_shut X₂ T room A x (near.same_open ∙ o))
 
     every_near : BothAnswer NearTo (every X₂ T room A A.is_open) (every X T room L L.is_open)
-    every_near = every_alike X₂ X T (Sized B.type_cnt) (machine_lawful N B B.type_cnt) (opened_wf p modes s n ok).below NearTo (near_alike b e s w (opened_indexed p modes s n ok) Z room_for N (opened_names p modes s n ok) (opened_wf p modes s n ok)) room A L near
+    every_near = every_alike X₂ X T (Sized B.type_cnt) (machine_lawful N B B.type_cnt) (opened_wf p modes s n ok).below NearTo NamesTo (near_alike b e s w (opened_indexed p modes s n ok) Z room_for N (opened_names p modes s n ok) (opened_wf p modes s n ok)) room A L near
 
     types_are : T.count ≡ b.types
     unfolding btf_of

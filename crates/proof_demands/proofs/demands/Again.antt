@@ -40,7 +40,7 @@ module _ (p modes : ℕ) (s : List ℕ) (n : ℕ) (fine : opening_number p s n �
   abbrev State : Type 0
   State = Ls (Known Names)
 
-  abbrev X : Machine State
+  abbrev X : Machine State Names
   X = machine_in p modes s n
 
   -- ---- a single request for what was accepted before
@@ -78,10 +78,10 @@ module _ (p modes : ℕ) (s : List ℕ) (n : ℕ) (fine : opening_number p s n �
     }
 
   -- ---- what a list accepts was asked for
-  took_emitted : (L : Sess State) (x : ℕ) (r : Out State) → (emitted X T L x r).sess.is_open ≡ true → (emitted X T L x r).sess.asked ≡ L.asked ++ (x ∷ [])
+  took_emitted : (L : Sess State) (x : ℕ) (r : Out State Names) → (emitted X T L x r).sess.is_open ≡ true → (emitted X T L x r).sess.asked ≡ L.asked ++ (x ∷ [])
   unfolding emitted shut
   took_emitted L x (wrote m) o = refl
-  took_emitted L x (stuck e) o = absurd (true≢false (sym o))
+  took_emitted L x (stuck u e) o = absurd (true≢false (sym o))
 
   took_ordered : (L : Sess State) (x : ℕ) (r : Res State) → (ordered X T L x r).sess.is_open ≡ true → (ordered X T L x r).sess.asked ≡ L.asked ++ (x ∷ [])
   unfolding ordered shut

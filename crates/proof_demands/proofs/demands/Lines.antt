@@ -10,16 +10,17 @@ use lib.Seq.{take-append_seam}
 use lib.Dec.{leb, eqb, ltb}
 use borrow.Author.Tests.{le-leb, lt-leb, leb-true}
 use Rattle.std.proofs.lemmas.Bool.{cases_lt}
-use Rattle.std.specs.Prelude.{Ok}
+use Rattle.std.specs.Prelude.{⊤}
 use Rattle.spec_bytes.specs.words.Words.{get_word}
 use Rattle.spec_bytes.specs.text.Text.{Text, whole, cut, bytes}
-use Rattle.spec_bytes.specs.text.Placed.{place, Out as Put, stopped, written, put_text}
-use Rattle.spec_c_dumper.specs.rules.Place.{with_names, put_said}
+use Rattle.spec_bytes.specs.text.Placed.{place, written}
+use Rattle.spec_c_dumper.specs.rules.Place.{Wrote, refused, with_names, none_held, put_here}
 use Rattle.spec_c_dumper.specs.rules.Writer.{Said, said, said_names}
 use Rattle.spec_c_dumper.specs.rules.Names.{Names, Resolved, Naming}
 use Rattle.spec_c_dumper.specs.rules.Types.{BtfType, Btf as Rules}
+use Rattle.spec_c_dumper.specs.rules.Layout.{smaller}
 use Rattle.spec_c_dumper.specs.rules.Emit.{definition, forward}
-use Rattle.spec_c_dumper.proofs.rules.Related.{RelSaid, same, RelNaming, rel_text, rel_names, rel_definition, rel_forward}
+use Rattle.spec_c_dumper.proofs.rules.Related.{RelSaid, same, RelNaming, rel_text, rel_names, rel_held, rel_through, rel_definition, rel_forward}
 use Rattle.spec_type_table.specs.declared.types.TypeTable.{TypeTable}
 use Rattle.spec_type_table.specs.Cells.{get_field, put_field, place_of, class_p, count_p, count_raised}
 use Rattle.spec_type_table.specs.Numbers.{head_p, next_p, taken_p, number_at}
@@ -31,7 +32,7 @@ use Rattle.spec_bytes.proofs.words.Laws.{get_put_other}
 use Rattle.spec_bytes.proofs.text.TextLaws.{place_length, head_length}
 use Rattle.c_dumper_dependency_order.specs.order_state.Work.{mark_of}
 use Rattle.spec_c_dumper.specs.needs.Lists.{Piece, defines, other, Line, cannot, Ls, put_line}
-use Rattle.spec_c_dumper.specs.needs.Session.{Known, fitting, line_of, text_of, machine_by}
+use Rattle.spec_c_dumper.specs.needs.Session.{Known, names_at_stop, fitting, line_of, text_of, machine_by}
 use Rattle.proof_demands.specs.name_counts.Indexed.{Indexed, NameFits, FitsValue}
 use Rattle.proof_demands.specs.name_counts.Alike.{Alike}
 use Rattle.proof_demands.proofs.name_counts.Table.{fits_table}
@@ -61,7 +62,7 @@ module _ (b : TypeTable) (i : ℕ) (z : Free b.types i) where
       u : List ℕ
       u = count_raised (class_p b.types) (count_p b.types) v id
 
-      go : (t : Bool) → get_word (elim t as (λ z. Resolved (List ℕ)) [ false ↦ record { version = get_field v id 4; names = v } | true ↦ record { version = n; names = put_field u id 4 n } ]).names i ≡ get_word v i
+      go : (t : Bool) → get_word (elim t as (λ z. Resolved (List ℕ)) [ false ↦ record { passes = false; version = get_field v id 4; names = v } | true ↦ record { passes = false; version = n; names = put_field u id 4 n } ]).names i ≡ get_word v i
       go false = refl
       go true = get_put_other u (id * 16 + 4) i n (z.no_version id) ∙ counted_other b.types v id i z.no_count
 
@@ -75,29 +76,29 @@ module _ (b : TypeTable) (i : ℕ) (z : Free b.types i) where
       u : List ℕ
       u = count_raised (class_p b.types) (count_p b.types) v (b.types + k)
 
-      go : (t : Bool) → get_word (elim t as (λ z. Resolved (List ℕ)) [ true ↦ record { version = n; names = u } | false ↦ record { version = 0; names = v } ]).names i ≡ get_word v i
+      go : (t : Bool) → get_word (elim t as (λ z. Resolved (List ℕ)) [ true ↦ record { passes = false; version = n; names = u } | false ↦ record { passes = false; version = 0; names = v } ]).names i ≡ get_word v i
       go false = refl
       go true = counted_other b.types v (b.types + k) i z.no_count
 
   pub definition_free : (B : Rules) (id : ℕ) (t : BtfType) (v : List ℕ) → get_word (said_names (definition_once (work_asks b.types B) (work_naming b) B id t v)) i ≡ get_word v i
   unfolding work_naming
   definition_free B id t v =
-      definition_keeps (λ (u : List ℕ). get_word u i) (λ u c. get_put_other u (0 * 16 + 2) i c z.no_visits) (λ u x c. get_put_other u (x * 16 + 15) i c (z.no_align x)) b B (λ space x name u. type_free x u) (λ x k name u. value_free (enumerator_of u x k) u) id t v
+      (definition_keeps (λ (u : List ℕ). get_word u i) (λ u c. get_put_other u (0 * 16 + 2) i c z.no_visits) (λ u x c. get_put_other u (x * 16 + 15) i c (z.no_align x)) b B (λ space x name u. type_free x u) (λ x k name u. value_free (enumerator_of u x k) u) id t v).0
 
   pub forward_free : (B : Rules) (id : ℕ) (t : BtfType) (v : List ℕ) → get_word (said_names (forward_once (work_asks b.types B) (work_naming b) B id t v)) i ≡ get_word v i
   unfolding work_naming
   forward_free B id t v =
-      forward_keeps (λ (u : List ℕ). get_word u i) (λ u c. get_put_other u (0 * 16 + 2) i c z.no_visits) (λ u x c. get_put_other u (x * 16 + 15) i c (z.no_align x)) b B (λ space x name u. type_free x u) (λ x k name u. value_free (enumerator_of u x k) u) id t v
+      (forward_keeps (λ (u : List ℕ). get_word u i) (λ u c. get_put_other u (0 * 16 + 2) i c z.no_visits) (λ u x c. get_put_other u (x * 16 + 15) i c (z.no_align x)) b B (λ space x name u. type_free x u) (λ x k name u. value_free (enumerator_of u x k) u) id t v).0
 
 -- and the table stays
 module _ (b : TypeTable) (s : List ℕ) where
   pub definition_table : (B : Rules) (id : ℕ) (t : BtfType) (v : List ℕ) → btf_of b s (said_names (definition_once (work_asks b.types B) (work_naming b) B id t v)) ≡ btf_of b s v
   unfolding work_naming
-  definition_table B id t v = definition_keeps (btf_of b s) (λ u c. table_field u 0 2 c (omega arith) b s (λ q. omega arith) (λ q. omega arith) (λ q. omega arith)) (λ u x c. table_field u x 15 c (omega arith) b s (λ q. omega arith) (λ q. omega arith) (λ q. omega arith)) b B (λ space x name u. table_type_version b s u x) (λ x k name u. table_value_version b s u (enumerator_of u x k)) id t v
+  definition_table B id t v = (definition_keeps (btf_of b s) (λ u c. table_field u 0 2 c (omega arith) b s (λ q. omega arith) (λ q. omega arith) (λ q. omega arith)) (λ u x c. table_field u x 15 c (omega arith) b s (λ q. omega arith) (λ q. omega arith) (λ q. omega arith)) b B (λ space x name u. table_type_version b s u x) (λ x k name u. table_value_version b s u (enumerator_of u x k)) id t v).0
 
   pub forward_table : (B : Rules) (id : ℕ) (t : BtfType) (v : List ℕ) → btf_of b s (said_names (forward_once (work_asks b.types B) (work_naming b) B id t v)) ≡ btf_of b s v
   unfolding work_naming
-  forward_table B id t v = forward_keeps (btf_of b s) (λ u c. table_field u 0 2 c (omega arith) b s (λ q. omega arith) (λ q. omega arith) (λ q. omega arith)) (λ u x c. table_field u x 15 c (omega arith) b s (λ q. omega arith) (λ q. omega arith) (λ q. omega arith)) b B (λ space x name u. table_type_version b s u x) (λ x k name u. table_value_version b s u (enumerator_of u x k)) id t v
+  forward_table B id t v = (forward_keeps (btf_of b s) (λ u c. table_field u 0 2 c (omega arith) b s (λ q. omega arith) (λ q. omega arith) (λ q. omega arith)) (λ u x c. table_field u x 15 c (omega arith) b s (λ q. omega arith) (λ q. omega arith) (λ q. omega arith)) b B (λ space x name u. table_type_version b s u x) (λ x k name u. table_value_version b s u (enumerator_of u x k)) id t v).0
 
 -- words 1 and 3 of types, and all words 11 and 13
 count_form : (types c i : ℕ) → (i ≡ c * 16 + 6 → ⊥) → (types ≤ c → i ≡ types * 16 + (c - types) * 8 + 2 → ⊥) → i ≢ count_p types c
@@ -157,26 +158,26 @@ module _ (b : TypeTable) (e : ℕ) (s w : List ℕ) (I : Indexed b e s w) (mk : 
     memory = mem;
   }
 
-  abbrev put_by : Text → Bool → Put
-  put_by x d = elim d as (λ z. Put) [ true ↦ written text at x | false ↦ stopped 17 ]
+  abbrev put_by : List ℕ → Text → Bool → Wrote (List ℕ) ⊤
+  put_by v' x d = elim d as (λ z. Wrote (List ℕ) ⊤) [ true ↦ with_names none_held v' (written text at x) | false ↦ refused tt 17 ]
 
-  abbrev line_by : Names → Text → Bool → Line (Known Names)
-  line_by u' x d = elim d as (λ z. Line (Known Names)) [ true ↦ fitting (length front + at) u' x | false ↦ cannot 17 ]
+  abbrev line_by : Names → Text → List Names → Bool → Line (Known Names) Names
+  line_by u' x m d = elim d as (λ z. Line (Known Names) Names) [ true ↦ fitting (length front + at) u' x | false ↦ cannot (names_at_stop (smaller t.room 1073741824 - (length front + at)) (said u' x m)) 17 ]
 
-  line_said : (u' : Names) (x : Text) → line_of t.room (length front + at) (said u' x) ≡ line_by u' x (leb (length (bytes x)) (length text - at))
+  line_said : (u' : Names) (x : Text) (m : List Names) → line_of t.room (length front + at) (said u' x m) ≡ line_by u' x m (leb (length (bytes x)) (length text - at))
   unfolding line_of
-  line_said u' x =
-      ap (λ (n : ℕ). line_by u' x (leb (length front + at + length (bytes x)) n)) (sym sh.room)
-      ∙ ap (line_by u' x) (room_left (length front) at (length (bytes x)) (length text) sh.inside)
+  line_said u' x m =
+      ap (λ (n : ℕ). line_by u' x m (leb (length front + at + length (bytes x)) n)) (sym sh.room)
+      ∙ ap (line_by u' x m) (room_left (length front) at (length (bytes x)) (length text) sh.inside)
 
   pub one_line : (s₁ : Said (List ℕ)) (s₂ : Said Names) → RelSaid (Alike b e s w) s₁ s₂ → btf_of b s (said_names s₁) ≡ btf_of b s v → ((i : ℕ) → Free b.types i → get_word (said_names s₁) i ≡ get_word v i) → SoundMemory (btf_of b s w) (said_names s₁)
-      → BothLine b e s w front t.room len (put_said text (Ok at) s₁) (put_line mk t (line_of t.room (length front + at) s₂))
-  unfolding said_names with_names written fitting bytes put_said put_text
-  one_line _ _ (same v' u' x r) tab k mem =
-      subst (λ (o : Line (Known Names)). BothLine b e s w front t.room len (with_names v' (put_by x (leb (length (bytes x)) (length text - at)))) (put_line mk t o)) (sym (line_said u' x))
+      → BothLine b e s w front t.room len (put_here none_held text at s₁) (put_line mk t (line_of t.room (length front + at) s₂))
+  unfolding said_names with_names written fitting bytes put_here
+  one_line _ _ (same v' u' x _ m r _) tab k mem =
+      subst (λ (o : Line (Known Names) Names). BothLine b e s w front t.room len (put_by v' x (leb (length (bytes x)) (length text - at))) (put_line mk t o)) (sym (line_said u' x m))
       (go x (leb (length (bytes x)) (length text - at)) refl)
     where
-      fits : (x : Text) → at + length (bytes x) ≤ length text → BothLine b e s w front t.room len (with_names v' (written text at x)) (put_line mk t (fitting (length front + at) u' x))
+      fits : (x : Text) → at + length (bytes x) ≤ length text → BothLine b e s w front t.room len (with_names none_held v' (written text at x)) (put_line mk t (fitting (length front + at) u' x))
       fits (whole a) l = lines_on (place text at a) (at + length a) v' _ (bears_names v' u' (length front + at + length a) (t.pieces ++ (mk a ∷ [])) r tab k mem) (record {
         room = ap (λ (n : ℕ). length front + n) (place_length text at a l) ∙ sh.room;
         place = omega arith;
@@ -186,7 +187,7 @@ module _ (b : TypeTable) (e : ℕ) (s w : List ℕ) (I : Indexed b e s w) (mk : 
       fits (cut a c) l = lines_stop c
 
       go : (x : Text) (d : Bool) → leb (length (bytes x)) (length text - at) ≡ d
-          → BothLine b e s w front t.room len (with_names v' (put_by x d)) (put_line mk t (line_by u' x d))
+          → BothLine b e s w front t.room len (put_by v' x d) (put_line mk t (line_by u' x m d))
       go x true q = let k : length (bytes x) ≤ length text - at = leb-true (length (bytes x)) (length text - at) q in fits x (omega (arith, k, sh.inside))
       go x false q = lines_stop 17
 
@@ -241,31 +242,32 @@ module _ (b : TypeTable) (e : ℕ) (s w : List ℕ) (I : Indexed b e s w) (Z : S
   through : (s₁ s₀ : Said (List ℕ)) (s₂ : Said Names) → Says b B Z s₁ s₀ → RelSaid (Alike b e s w) s₀ s₂ → RelSaid (Alike b e s w) s₁ s₂
   through s₁ s₀ s₂ y r =
       both_said (Alike b e s w) s₁ s₂ (alike_agree b e s w Z.some (said_names s₁) (said_names s₀) (said_names s₂) y.words (rel_names (Alike b e s w) r)) (y.text ∙ rel_text (Alike b e s w) r)
+      (rel_through Agree (Alike b e s w) (Alike b e s w) (λ v u n a k. alike_agree b e s w Z.some v u n a k) y.held (rel_held (Alike b e s w) r))
 
   definition_line : (mk : List ℕ → Piece) → ((a : List ℕ) → text_of (mk a ∷ []) ≡ a)
-      → BothLine b e s w front t.room len (put_said text (Ok at) defined) (put_line mk t (line_of t.room t.known.text_len (definition N B x type t.known.names)))
+      → BothLine b e s w front t.room len (put_here none_held text at defined) (put_line mk t (line_of t.room t.known.text_len (definition N B x type t.known.names)))
   definition_line mk q =
-      subst (λ (n : ℕ). BothLine b e s w front t.room len (put_said text (Ok at) defined) (put_line mk t (line_of t.room n (definition N B x type t.known.names)))) sh.place
+      subst (λ (n : ℕ). BothLine b e s w front t.room len (put_here none_held text at defined) (put_line mk t (line_of t.room n (definition N B x type t.known.names)))) sh.place
       (one_line b e s w I mk q v len t h front text at sh defined (definition N B x type t.known.names)
       (through defined (definition (work_naming b) B x type v) (definition N B x type t.known.names) defined_says
       (rel_definition (Alike b e s w) (NameFits b s w) (FitsValue b s w) (work_naming b) N R B (fits_table b s w) x type (fits_table b s w x) v t.known.names h.names))
       (definition_table b s B x type v) (λ i z. definition_free b i z B x type v) defined_says.memory)
 
   -- a composite's definition, and an enum's or a forward's
-  pub body_line : BothLine b e s w front t.room len (put_said text (Ok at) defined) ((machine_by N B).body t x)
+  pub body_line : BothLine b e s w front t.room len (put_here none_held text at defined) ((machine_by N B).body t x)
   body_line = definition_line (defines x) (text_defines x)
 
-  pub leaf_line : BothLine b e s w front t.room len (put_said text (Ok at) defined) ((machine_by N B).leaf_line t x)
+  pub leaf_line : BothLine b e s w front t.room len (put_here none_held text at defined) ((machine_by N B).leaf_line t x)
   leaf_line = definition_line other text_other
 
   -- a forward line, and a typedef
-  pub forward_line : BothLine b e s w front t.room len (put_said text (Ok at) forwarded) ((machine_by N B).fwd_line t x)
+  pub forward_line : BothLine b e s w front t.room len (put_here none_held text at forwarded) ((machine_by N B).fwd_line t x)
   forward_line =
-      subst (λ (n : ℕ). BothLine b e s w front t.room len (put_said text (Ok at) forwarded) (put_line other t (line_of t.room n (forward N B x type t.known.names)))) sh.place
+      subst (λ (n : ℕ). BothLine b e s w front t.room len (put_here none_held text at forwarded) (put_line other t (line_of t.room n (forward N B x type t.known.names)))) sh.place
       (one_line b e s w I other text_other v len t h front text at sh forwarded (forward N B x type t.known.names)
       (through forwarded (forward (work_naming b) B x type v) (forward N B x type t.known.names) forwarded_says
       (rel_forward (Alike b e s w) (NameFits b s w) (FitsValue b s w) (work_naming b) N R B (fits_table b s w) x type (fits_table b s w x) v t.known.names h.names))
       (forward_table b s B x type v) (λ i z. forward_free b i z B x type v) forwarded_says.memory)
 
-  pub alias_line : BothLine b e s w front t.room len (put_said text (Ok at) forwarded) ((machine_by N B).alias_line t x)
+  pub alias_line : BothLine b e s w front t.room len (put_here none_held text at forwarded) ((machine_by N B).alias_line t x)
   alias_line = forward_line

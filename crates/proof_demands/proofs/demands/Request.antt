@@ -15,11 +15,12 @@ use Rattle.spec_c_dumper.specs.rules.Types.{Btf as Rules, table_of}
 use Rattle.spec_c_dumper.specs.rules.Layout.{smaller}
 use Rattle.spec_c_dumper.specs.rules.Names.{Names, Naming}
 use Rattle.spec_c_dumper.proofs.rules.Related.{RelNaming}
-use Rattle.spec_c_dumper.specs.rules.Place.{Wrote}
+use Rattle.spec_c_dumper.specs.rules.Place.{Wrote, put_held}
 use Rattle.spec_type_table.specs.declared.types.TypeTable.{TypeTable}
 use Rattle.spec_type_table.specs.Table.{btf_of, work_naming}
 use Rattle.c_dumper_dependency_order.specs.order_state.Work.{work_store}
 use Rattle.c_dumper_dependency_order.proofs.order_state.Frame.{table_list}
+use Rattle.std.specs.Prelude.{⊤}
 use Rattle.spec_session.specs.emission.Slices.{Slices, slices_store, emptied, slices_of, line_in, work_machine}
 use Rattle.spec_session.proofs.emission.Lawful.{emptied_length}
 use Rattle.spec_c_dumper.specs.rules.Request.{listed_out, dumped}
@@ -60,14 +61,18 @@ module _ (b : TypeTable) (e : ℕ) (s w : List ℕ) (I : Indexed b e s w) (Z : S
   abbrev State : Type 0
   State = Ls (Known Names)
 
-  abbrev X₁ : Machine Slices
+  abbrev X₁ : Machine Slices (Unit {0})
   X₁ = work_machine b B
 
-  abbrev X : Machine State
+  abbrev X : Machine State Names
   X = machine_by N B
 
   abbrev Fit : State → Type 0
   Fit = Sized T.count
+
+  -- the slices hold nothing of the names after a refusal
+  abbrev pub untold : Unit {0} → Names → Type 0
+  untold h u = Unit {0}
 
   pub record Related (m : Slices) (t : State) : Type 0 where
     pub bears : Bears b e s w m.work m.len t
@@ -93,10 +98,10 @@ module _ (b : TypeTable) (e : ℕ) (s w : List ℕ) (I : Indexed b e s w) (Z : S
     so_far = h.so_far ∙ ap text_of p;
   }
 
-  to_out : (len : ℕ) → len ≤ b.types → {o : Wrote (List ℕ)} {l : Out State} → BothLine b e s w front room len o l → BothOut Related (slices_of len o) l
+  to_out : (len : ℕ) → len ≤ b.types → {o : Wrote (List ℕ) ⊤} {l : Out State Names} → BothLine b e s w front room len o l → BothOut Related untold (slices_of len o) l
   unfolding slices_of
   to_out len m (lines_on text at v t be sh r) = both_wrote (record { work = v; text = text; at = at; len = len }) t (record { bears = be; shows = sh; same_room = r; short = m })
-  to_out len m (lines_stop c) = both_stuck c
+  to_out len m (lines_stop {u = u} c) = both_stuck tt u tt c
 
   -- ---- ordering
   pub alike_store : AlikeStore X₁.store X.store T.count Fit Related
@@ -119,8 +124,8 @@ module _ (b : TypeTable) (e : ℕ) (s w : List ℕ) (I : Indexed b e s w) (Z : S
   }
 
   -- ---- emission
-  pub alike_steps : AlikeSteps X₁ X T.count Related
-  unfolding work_machine line_in
+  pub alike_steps : AlikeSteps X₁ X T.count Related untold
+  unfolding work_machine line_in put_held
   alike_steps = record {
     a_eget = λ m t q x l. q.bears.emits x (below x l);
     a_emark = λ k x m t q l. record {
@@ -140,9 +145,10 @@ module _ (b : TypeTable) (e : ℕ) (s w : List ℕ) (I : Indexed b e s w) (Z : S
     a_alias = λ m t q x l. to_out m.len q.short (at_room m t q (alias_line b e s w I Z N R m.work m.len t q.bears front m.text m.at q.shows x));
     a_leaf = λ m t q x l. to_out m.len q.short (at_room m t q (leaf_line b e s w I Z N R m.work m.len t q.bears front m.text m.at q.shows x));
     a_body = λ m t q x l. to_out m.len q.short (at_room m t q (body_line b e s w I Z N R m.work m.len t q.bears front m.text m.at q.shows x));
+    a_held = λ m t q. tt;
   }
     where
-      at_room : (m : Slices) (t : State) → Related m t → {o : Wrote (List ℕ)} {l : Out State} → BothLine b e s w front t.room m.len o l → BothLine b e s w front room m.len o l
+      at_room : (m : Slices) (t : State) → Related m t → {o : Wrote (List ℕ) ⊤} {l : Out State Names} → BothLine b e s w front t.room m.len o l → BothLine b e s w front room m.len o l
       at_room m t q {o} {l} h = subst (λ (r : ℕ). BothLine b e s w front r m.len o l) q.same_room h
 
   -- ---- a request
@@ -157,20 +163,20 @@ module _ (b : TypeTable) (e : ℕ) (s w : List ℕ) (I : Indexed b e s w) (Z : S
   list_same m t q = q.bears.list
 
   module _ (S : Sess State) (x : ℕ) where
-    pub emitted_alike : {r₁ : Out Slices} {r : Out State} → BothOut Related r₁ r → BothRequest b e s w front room S x (obind r₁ (λ m. wrote (X₁.start 0 m))) (emitted X T S x r)
+    pub emitted_alike : {r₁ : Out Slices (Unit {0})} {r : Out State Names} → BothOut Related untold r₁ r → BothRequest b e s w front room S x (obind r₁ (λ m. wrote (X₁.start 0 m))) (emitted X T S x r)
     unfolding obind emitted shut work_machine
     emitted_alike (both_wrote m t q) =
         both_served (record { work = emptied m.len m.work; text = m.text; at = m.at; len = 0 }) t
         (start_step b e s w m.work (emptied m.len m.work) (emptied_length m.len m.work) (emptied_table b s m.len m.work) (λ i z. emptied_word m.len m.work i (λ j l. z j (omega (arith, l, q.short)))) B 0 m.len t q.bears)
         q.shows q.same_room
-    emitted_alike (both_stuck c) = both_refused c
+    emitted_alike (both_stuck h u q c) = both_refused c (X.leaving u S.mach) refl refl
 
-    ordered_alike : (t₀ : State) {r₁ : Res Slices} {r : Res State} → Both (Goes t₀) r₁ r → BothRequest b e s w front room S x (listed_out X₁ T r₁) (ordered X T S x r)
+    ordered_alike : (t₀ : State) {r₁ : Res Slices} {r : Res State} → Both (Goes t₀) r₁ r → BothRequest b e s w front room S x (listed_out X₁ T tt r₁) (ordered X T S x r)
     unfolding listed_out ordered shut
     ordered_alike t₀ (both m t c h) =
-        emitted_alike (subst (λ (k : List ℕ). BothOut Related (eeach (λ m' y. emit X₁ T 512 m' y 0) k m) (eeach (λ t' y. emit X T 512 t' y 0) (X.store.list t) t)) (sym (list_same m t h.live.related))
-        (eeach_alike X₁ X T wf.below Related alike_steps (λ m' y. emit X₁ T 512 m' y 0) (λ t' y. emit X T 512 t' y 0) (λ m' t' y q l. emit_alike X₁ X T wf.below Related alike_steps 512 m' t' y 0 q l) (X.store.list t) h.live.ids m t h.live.related))
-    ordered_alike t₀ (neither c) = both_refused c
+        emitted_alike (subst (λ (k : List ℕ). BothOut Related untold (eeach (λ m' y. emit X₁ T 512 m' y 0) k m) (eeach (λ t' y. emit X T 512 t' y 0) (X.store.list t) t)) (sym (list_same m t h.live.related))
+        (eeach_alike X₁ X T wf.below Related untold alike_steps (λ m' y. emit X₁ T 512 m' y 0) (λ t' y. emit X T 512 t' y 0) (λ m' t' y q l. emit_alike X₁ X T wf.below Related untold alike_steps 512 m' t' y 0 q l) (X.store.list t) h.live.ids m t h.live.related))
+    ordered_alike t₀ (neither c) = both_refused c (X.leaving (X.held S.mach) S.mach) refl refl
 
     -- m: the sheet of the request, with an empty order list
     pub request_alike : (m : Slices) → m.len ≡ 0 → Bears b e s w m.work 0 (X.start 0 S.mach) → Shows b e s w front m.text m.at (X.start room S.mach) → x < b.types

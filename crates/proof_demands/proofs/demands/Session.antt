@@ -119,7 +119,7 @@ module _ (p modes : ℕ) (s : List ℕ) (n : ℕ) (ok : opening_number p s n ≡
   abbrev State : Type 0
   State = Ls (Known Names)
 
-  abbrev X : Machine State
+  abbrev X : Machine State Names
   X = machine_in p modes s n
 
   -- in the course of a call on a text slice of `room` bytes
@@ -190,27 +190,27 @@ module _ (p modes : ℕ) (s : List ℕ) (n : ℕ) (ok : opening_number p s n ≡
           bears = be;
         }
 
-    ended : Ended len (take len t) room (record { is_open = false; mach = L.mach; asked = L.asked })
-    ended = record {
+    ended : (u : State) → u.known.text_len ≡ L.mach.known.text_len → u.pieces ≡ L.mach.pieces → Ended len (take len t) room (record { is_open = false; mach = u; asked = L.asked })
+    ended u l q = record {
       closed = refl;
-      its_length = g.its_length;
-      its_text = take-take len len t (le_refl len) ∙ g.its_text;
+      its_length = g.its_length ∙ sym l;
+      its_text = take-take len len t (le_refl len) ∙ g.its_text ∙ ap text_of (sym q);
       fits = omega (arith, front_long);
       inside = omega (arith, g.fits, g.long);
       small = g.small;
     }
 
-    pub came : (u : ℕ) {o : Out Slices} {a : Answer State} → BothRequest b e s w (take len t) room L x o a → ((c : ℕ) → o ≡ stuck c → 0 < c) → BothReach room (came_to len u t o) a
+    pub came : (u : ℕ) {o : Out Slices (Unit {0})} {a : Answer State} → BothRequest b e s w (take len t) room L x o a → ((c : ℕ) → o ≡ stuck tt c → 0 < c) → BothReach room (came_to len u t o) a
     unfolding came_to
     came d (both_served m u be sh r) k = both_reached (len + m.at) m.work (place t len m.text) _ (served m u be sh r)
-    came d (both_refused zero) k = absurd (let q : 0 < 0 = k 0 refl in omega arith)
-    came d (both_refused (suc c)) k = both_ended c len d (take len t) _ ended
+    came d (both_refused zero u l q) k = absurd (let z : 0 < 0 = k 0 refl in omega arith)
+    came d (both_refused (suc c) u l q) k = both_ended c len d (take len t) _ (ended u l q)
 
     pub single_is : x < T.count → single X T room L x ≡ ordered X T L x (ordering X T room L x)
     unfolding single gate
     single_is l = ap (λ (f : Bool). gate X T room L x f (ltb x T.count)) g.running ∙ ap (gate X T room L x true) (lt-ltb x T.count l)
 
-    pub positive : (c : ℕ) → dumped (work_machine b B) T slices x ≡ stuck c → 0 < c
+    pub positive : (c : ℕ) → dumped (work_machine b B) T slices x ≡ stuck tt c → 0 < c
     positive c q =
         let z : (12 ≤ c) × (c ≤ 18) = stuck_listed (length (lent_to len t)) (dumped (work_machine b B) T slices x) (fair_request b B (length (lent_to len t)) slices x (omega arith, refl)) c q in
         omega (arith, z.0)

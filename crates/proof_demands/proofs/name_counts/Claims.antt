@@ -166,11 +166,11 @@ module _ (space : Space) (id : ℕ) (name : Name) (u : Names) where
       step true q z = omega arith
       step false q z = true≢false (sym (lt-ltb n 4294967295 (omega arith)) ∙ q)
 
-  has_version : (x : Names) (n : ℕ) → get_or x.versions id 0 ≡ n → n ≢ 0 → type_version space id name x ≡ record { version = n; names = x }
+  has_version : (x : Names) (n : ℕ) → get_or x.versions id 0 ≡ n → n ≢ 0 → type_version space id name x ≡ record { passes = false; version = n; names = x }
   unfolding type_version one_more
   has_version x n q z =
-      ap (λ (t : Bool). elim t as (λ z. Resolved Names) [ false ↦ record { version = get_or x.versions id 0; names = x } | true ↦ record { version = one_more (holders x.ledger space name); names = record { versions = set x.versions id (one_more (holders x.ledger space name)); ledger = with_one x.ledger space name } } ]) (ap (λ (k : ℕ). eqb k 0) q ∙ ne_eqb n 0 z)
-      ∙ (λ i. record { version = q i; names = x })
+      ap (λ (t : Bool). elim t as (λ z. Resolved Names) [ false ↦ record { passes = false; version = get_or x.versions id 0; names = x } | true ↦ record { passes = false; version = one_more (holders x.ledger space name); names = record { versions = set x.versions id (one_more (holders x.ledger space name)); ledger = with_one x.ledger space name } } ]) (ap (λ (k : ℕ). eqb k 0) q ∙ ne_eqb n 0 z)
+      ∙ (λ i. record { passes = false; version = q i; names = x })
 
   pub kept_name : id < length u.versions → type_version space id name (type_version space id name u).names ≡ type_version space id name u
   unfolding type_version one_more
@@ -180,8 +180,8 @@ module _ (space : Space) (id : ℕ) (name : Name) (u : Names) where
       m = one_more (holders u.ledger space name)
 
       step : (t : Bool) → eqb (get_or u.versions id 0) 0 ≡ t
-          → type_version space id name (elim t as (λ z. Resolved Names) [ false ↦ record { version = get_or u.versions id 0; names = u } | true ↦ record { version = m; names = record { versions = set u.versions id m; ledger = with_one u.ledger space name } } ]).names
-          ≡ elim t as (λ z. Resolved Names) [ false ↦ record { version = get_or u.versions id 0; names = u } | true ↦ record { version = m; names = record { versions = set u.versions id m; ledger = with_one u.ledger space name } } ]
+          → type_version space id name (elim t as (λ z. Resolved Names) [ false ↦ record { passes = false; version = get_or u.versions id 0; names = u } | true ↦ record { passes = false; version = m; names = record { versions = set u.versions id m; ledger = with_one u.ledger space name } } ]).names
+          ≡ elim t as (λ z. Resolved Names) [ false ↦ record { passes = false; version = get_or u.versions id 0; names = u } | true ↦ record { passes = false; version = m; names = record { versions = set u.versions id m; ledger = with_one u.ledger space name } } ]
       step true q = has_version (record { versions = set u.versions id m; ledger = with_one u.ledger space name }) m (get_or-set_same u.versions id m 0 l) (one_no_zero (holders u.ledger space name))
       step false q = has_version u (get_or u.versions id 0) refl (λ z. true≢false (sym (ap (λ (n : ℕ). eqb n 0) z) ∙ q))
 
@@ -193,7 +193,7 @@ module _ (space : Space) (id : ℕ) (name : Name) (u : Names) where
       m : ℕ
       m = one_more (holders u.ledger space name)
 
-      step : (t : Bool) → get_or (elim t as (λ z. Resolved Names) [ false ↦ record { version = get_or u.versions id 0; names = u } | true ↦ record { version = m; names = record { versions = set u.versions id m; ledger = with_one u.ledger space name } } ]).names.versions j 0 ≡ get_or u.versions j 0
+      step : (t : Bool) → get_or (elim t as (λ z. Resolved Names) [ false ↦ record { passes = false; version = get_or u.versions id 0; names = u } | true ↦ record { passes = false; version = m; names = record { versions = set u.versions id m; ledger = with_one u.ledger space name } } ]).names.versions j 0 ≡ get_or u.versions j 0
       step true = get_or-set_other u.versions id j m 0 n
       step false = refl
 

@@ -114,8 +114,8 @@ module _ (b : TypeTable) (e : ℕ) (s w : List ℕ) (I : Indexed b e s w) where
     type_alike =
         subst
         (λ (y : ℕ). RelResolved (Alike b e s w)
-        (elim (eqb (get_field v id 4) 0) as (λ z. Resolved (List ℕ)) [ false ↦ record { version = get_field v id 4; names = v } | true ↦ record { version = n; names = put_field (count_raised (class_p b.types) (count_p b.types) v id) id 4 n } ])
-        (elim (eqb y 0) as (λ z. Resolved Names) [ false ↦ record { version = y; names = u } | true ↦ record { version = m; names = record { versions = set u.versions id m; ledger = one_more_holds u.ledger space name } } ]))
+        (elim (eqb (get_field v id 4) 0) as (λ z. Resolved (List ℕ)) [ false ↦ record { passes = false; version = get_field v id 4; names = v } | true ↦ record { passes = false; version = n; names = put_field (count_raised (class_p b.types) (count_p b.types) v id) id 4 n } ])
+        (elim (eqb y 0) as (λ z. Resolved Names) [ false ↦ record { passes = false; version = y; names = u } | true ↦ record { passes = false; version = m; names = record { versions = set u.versions id m; ledger = one_more_holds u.ledger space name } } ]))
         (a.its_version id f.below)
         (step (eqb (get_field v id 4) 0))
       where
@@ -127,10 +127,10 @@ module _ (b : TypeTable) (e : ℕ) (s w : List ℕ) (I : Indexed b e s w) where
 
         step : (t : Bool)
             → RelResolved (Alike b e s w)
-            (elim t as (λ z. Resolved (List ℕ)) [ false ↦ record { version = get_field v id 4; names = v } | true ↦ record { version = n; names = put_field (count_raised (class_p b.types) (count_p b.types) v id) id 4 n } ])
-            (elim t as (λ z. Resolved Names) [ false ↦ record { version = get_field v id 4; names = u } | true ↦ record { version = m; names = record { versions = set u.versions id m; ledger = one_more_holds u.ledger space name } } ])
-        step false = (refl, a)
-        step true = (next_alike v u a id space name q L, type_new)
+            (elim t as (λ z. Resolved (List ℕ)) [ false ↦ record { passes = false; version = get_field v id 4; names = v } | true ↦ record { passes = false; version = n; names = put_field (count_raised (class_p b.types) (count_p b.types) v id) id 4 n } ])
+            (elim t as (λ z. Resolved Names) [ false ↦ record { passes = false; version = get_field v id 4; names = u } | true ↦ record { passes = false; version = m; names = record { versions = set u.versions id m; ledger = one_more_holds u.ledger space name } } ])
+        step false = (refl, refl, a)
+        step true = (refl, next_alike v u a id space name q L, type_new)
 
   -- ---- a name of a value
   module _ {T : Lists} (L : Listed b e s w T) (v : List ℕ) (u : Names) (a : Alike b e s w v u) (id i : ℕ) (name : Name) (f : FitsValue b s w id i name) where
@@ -146,10 +146,10 @@ module _ (b : TypeTable) (e : ℕ) (s w : List ℕ) (I : Indexed b e s w) where
         let q : Holds b e s w (b.types + enumerator_of w id i) ident_space name = value_holds b e s w I id i name f in
         subst
         (λ (t : Bool). RelResolved (Alike b e s w)
-        (elim t as (λ z. Resolved (List ℕ)) [ true ↦ record { version = number_at b.types v (b.types + enumerator_of w id i); names = count_raised (class_p b.types) (count_p b.types) v (b.types + enumerator_of w id i) } | false ↦ record { version = 0; names = v } ])
+        (elim t as (λ z. Resolved (List ℕ)) [ true ↦ record { passes = false; version = number_at b.types v (b.types + enumerator_of w id i); names = count_raised (class_p b.types) (count_p b.types) v (b.types + enumerator_of w id i) } | false ↦ record { passes = false; version = 0; names = v } ])
         (value_passed T name u))
         (sym (lt-ltb (b.types + enumerator_of w id i) 4294967296 m))
-        (next_alike v u a (b.types + enumerator_of w id i) ident_space name q L, count_alike v u a (b.types + enumerator_of w id i) ident_space name q)
+        (refl, next_alike v u a (b.types + enumerator_of w id i) ident_space name q L, count_alike v u a (b.types + enumerator_of w id i) ident_space name q)
 
     pub value_alike : RelResolved (Alike b e s w) (value_version_in b.types (enumerator_of v id i) v) (value_passed T name u)
     value_alike = subst (λ (k : ℕ). RelResolved (Alike b e s w) (value_version_in b.types k v) (value_passed T name u)) (sym same_enumerator) number_alike
@@ -160,6 +160,7 @@ module _ (b : TypeTable) (e : ℕ) (s w : List ℕ) (I : Indexed b e s w) where
   work_names L = record {
     rel_type = λ space id name f n v u a. type_alike L v u a space id name f;
     rel_value = λ id i name f v u a. value_alike L v u a id i name f;
+    rel_leaving = λ h x q v u a. a;
   }
 
   -- ---- at first

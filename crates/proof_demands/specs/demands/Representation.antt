@@ -1,6 +1,6 @@
 -- Emission in lent bytes against the machine of lists: when a work, a text, the next place in it and the length of the order list say what
 -- a state of the machine of lists with the names of the Rust says. proofs/Request.antt: one request keeps it, and gives the same on both.
-use Rattle.std.specs.Prelude.{ℕ, ◌+◌, ◌<◌, ◌≤◌, ◌≡◌, true, false, not, List, [], ◌∷◌, ◌++◌, length, get_or, take, eqb}
+use Rattle.std.specs.Prelude.{ℕ, ◌+◌, ◌<◌, ◌≤◌, ◌≡◌, true, false, not, List, [], ◌∷◌, ◌++◌, length, get_or, take, eqb, ⊤}
 use Rattle.spec_c_dumper.specs.rules.Order.{new}
 use Rattle.spec_c_dumper.specs.rules.Machine.{Out, wrote, stuck, Sess, Answer}
 use Rattle.spec_c_dumper.specs.rules.Place.{Wrote, wrote as written, refused}
@@ -42,15 +42,15 @@ module _ (b : TypeTable) (e : ℕ) (s w : List ℕ) where
     pub so_far : front ++ take at text ≡ text_of t.pieces
 
   -- what a line comes to in the text and the work, and in the machine of lists
-  pub data BothLine (front : List ℕ) (room len : ℕ) : Wrote (List ℕ) → Out (Ls (Known Names)) → Type 0 where
+  pub data BothLine (front : List ℕ) (room len : ℕ) : Wrote (List ℕ) ⊤ → Out (Ls (Known Names)) Names → Type 0 where
     lines_on : (text : List ℕ) (at : ℕ) (v : List ℕ) (t : Ls (Known Names)) → Bears v len t → Shows front text at t → t.room ≡ room
         → BothLine front room len (written text at v) (wrote t)
-    lines_stop : (c : ℕ) → BothLine front room len (refused c) (stuck c)
+    lines_stop : {u : Names} (c : ℕ) → BothLine front room len (refused tt c) (stuck u c)
 
   -- What a request for id x in the session S comes to, on a slice of the lent text after its front, and in the machine of lists: accepted
   -- by both, and then the work bears the new state (with an empty order list) and front and slice show its text; or refused by the same
-  -- number.
-  pub data BothRequest (front : List ℕ) (room : ℕ) (S : Sess (Ls (Known Names))) (x : ℕ) : Out Slices → Answer (Ls (Known Names))
+  -- number, and the text stays.
+  pub data BothRequest (front : List ℕ) (room : ℕ) (S : Sess (Ls (Known Names))) (x : ℕ) : Out Slices (Unit {0}) → Answer (Ls (Known Names))
       → Type 0 where
     both_served : (m : Slices) (t : Ls (Known Names)) → Bears m.work 0 ((machine (btf_of b s w)).start 0 t)
         → Shows front m.text m.at t → t.room ≡ room
@@ -58,5 +58,8 @@ module _ (b : TypeTable) (e : ℕ) (s w : List ℕ) where
           sess = record { is_open = true; mach = t; asked = S.asked ++ (x ∷ []) };
           number = 0;
         })
-    both_refused : (c : ℕ)
-        → BothRequest front room S x (stuck c) (record { sess = record { is_open = false; mach = S.mach; asked = S.asked }; number = c })
+    both_refused : (c : ℕ) (t : Ls (Known Names)) → t.known.text_len ≡ S.mach.known.text_len → t.pieces ≡ S.mach.pieces
+        → BothRequest front room S x (stuck tt c) (record {
+          sess = record { is_open = false; mach = t; asked = S.asked };
+          number = c;
+        })

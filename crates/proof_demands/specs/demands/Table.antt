@@ -31,7 +31,7 @@ names_in pointer modes s n =
     ]
 
 -- the machine of the rules with these names, and what opening leaves
-abbrev pub machine_in : ℕ → ℕ → List ℕ → ℕ → Machine (Ls (Known Names))
+abbrev pub machine_in : ℕ → ℕ → List ℕ → ℕ → Machine (Ls (Known Names)) Names
 machine_in pointer modes s n = machine_by (names_in pointer modes s n) (opened_table pointer modes s n)
 
 abbrev pub opened_in : ℕ → ℕ → List ℕ → ℕ → Sess (Ls (Known Names))

@@ -18,8 +18,9 @@ next_number T space name u = number_over (T space name) (one_more (holders u.led
 unfoldable pub type_passed : Lists → Space → ℕ → Name → Names → Resolved Names
 type_passed T space id name u =
     elim (eqb (get_or u.versions id 0) 0) [
-      | false ↦ record { version = get_or u.versions id 0; names = u }
+      | false ↦ record { passes = false; version = get_or u.versions id 0; names = u }
       | true ↦ record {
+        passes = false;
         version = next_number T space name u;
         names = record { versions = set u.versions id (next_number T space name u); ledger = with_one u.ledger space name };
       }
@@ -28,12 +29,13 @@ type_passed T space id name u =
 -- an enumerator is one more holder each time it is printed
 unfoldable pub value_passed : Lists → Name → Names → Resolved Names
 value_passed T name u = record {
+  passes = false;
   version = next_number T ident_space name u;
   names = record { versions = u.versions; ledger = with_one u.ledger ident_space name };
 }
 
 abbrev pub passed : Lists → Naming Names
-passed T = record { type_version = type_passed T; value_version = λ id i name u. value_passed T name u }
+passed T = record { type_version = type_passed T; value_version = λ id i name u. value_passed T name u; leaving = λ held u. u }
 
 -- no number is taken: the names of the Rust
 abbrev pub none : Lists

@@ -175,10 +175,12 @@ module _ (B : Btf) (plain : Suffixless B) where
     abbrev new_by : Bool → Resolved Apart
     new_by b = elim b as (λ (t : Bool). Resolved Apart) [
       | false ↦ record {
+        passes = false;
         version = get_or u.names.versions id 0;
         names = record { names = u.names; printed = shown space (of_type id) name (get_or u.names.versions id 0) u };
       }
       | true ↦ record {
+        passes = false;
         version = number_for B space name u;
         names = record {
           names = record { versions = set u.names.versions id (number_for B space name u); ledger = with_one u.names.ledger space name };
@@ -189,8 +191,9 @@ module _ (B : Btf) (plain : Suffixless B) where
 
     abbrev old_by : Bool → Resolved Names
     old_by b = elim b as (λ (t : Bool). Resolved Names) [
-      | false ↦ record { version = get_or u.names.versions id 0; names = u.names }
+      | false ↦ record { passes = false; version = get_or u.names.versions id 0; names = u.names }
       | true ↦ record {
+        passes = false;
         version = one_more (holders u.names.ledger space name);
         names = record { versions = set u.names.versions id (one_more (holders u.names.ledger space name)); ledger = with_one u.names.ledger space name };
       }
@@ -204,6 +207,7 @@ module _ (B : Btf) (plain : Suffixless B) where
 
     by_like : (b : Bool) → RelResolved Like (new_by b) (old_by b)
     by_like true = (
+      refl,
       number_is,
       (
         ap {B = Names} (λ (n : ℕ). record { versions = set u.names.versions id n; ledger = with_one u.names.ledger space name }) number_is,
@@ -212,6 +216,7 @@ module _ (B : Btf) (plain : Suffixless B) where
       ),
     )
     by_like false = (
+      refl,
       refl,
       (
         refl,
@@ -234,12 +239,13 @@ module _ (B : Btf) (plain : Suffixless B) where
   unfolding value_apart value_version
   value_like id i name f u h =
       let e : number_for B ident_space name u ≡ one_more (holders u.names.ledger ident_space name) = usual_number ident_space name f u h in
-      (e, (refl, usual_then ident_space name f u h (of_value id i) (number_for B ident_space name u) e u.names.versions (λ x. inl refl)))
+      (refl, e, (refl, usual_then ident_space name f u h (of_value id i) (number_for B ident_space name u) e u.names.versions (λ x. inl refl)))
 
   like : RelNaming Like (Fits B) (FitsValue B) (apart B) naming
   like = record {
     rel_type = λ space id name f e u v r. subst (λ (w : Names). RelResolved Like (type_apart B space id name u) (type_version space id name w)) r.0 (type_like space id name f u r.1);
     rel_value = λ id i name f u v r. subst (λ (w : Names). RelResolved Like (value_apart B id i name u) (value_version name w)) r.0 (value_like id i name f u r.1);
+    rel_leaving = λ h x q u v r. r;
   }
 
   none_usual : Usual (none_shown B)

@@ -42,48 +42,52 @@ pub record Short (n : ℕ) (s : Ls (Known Apart)) : Type 0 where
 abbrev Q : ℕ → Ls (Known Apart) → Ls (Known Apart) → Type 0
 Q n s t = (s ≡ t) × Short n t
 
+-- what a refused request held of the names is dropped
+abbrev Untold : Apart → Apart → Type 0
+Untold u v = Unit {0}
+
 module _ (n : ℕ) (mk : List ℕ → Piece) (s : Ls (Known Apart)) (h : Short n s) where
   whole_short : (u : Apart) (a : List ℕ) → s.known.text_len + length a ≤ 1073741824 → length u.printed + 0 ≤ length s.known.names.printed + length a
-      → BothOut (Q n) (put_line mk s (fitting s.known.text_len u (whole a))) (put_line mk s (fitting s.known.text_len u (whole a)))
+      → BothOut (Q n) Untold (put_line mk s (fitting s.known.text_len u (whole a))) (put_line mk s (fitting s.known.text_len u (whole a)))
   unfolding fitting
   whole_short u a l q =
       let e : length u.printed ≤ s.known.text_len + length a = omega (arith, h.spent, q) in
       both_wrote _ _ (refl, record { sized = record { marks_n = h.sized.marks_n; emits_n = h.sized.emits_n }; spent = e; limit = l })
 
-  cut_short : (u : Apart) (a : List ℕ) (c : ℕ) → BothOut (Q n) (put_line mk s (fitting s.known.text_len u (cut a c))) (put_line mk s (fitting s.known.text_len u (cut a c)))
+  cut_short : (u : Apart) (a : List ℕ) (c : ℕ) → BothOut (Q n) Untold (put_line mk s (fitting s.known.text_len u (cut a c))) (put_line mk s (fitting s.known.text_len u (cut a c)))
   unfolding fitting
-  cut_short u a c = both_stuck c
+  cut_short u a c = both_stuck u u tt c
 
-  line_short : (room : ℕ) (x : Said Apart) → Spent 0 s.known.names x → BothOut (Q n) (put_line mk s (line_of room s.known.text_len x)) (put_line mk s (line_of room s.known.text_len x))
+  line_short : (room : ℕ) (x : Said Apart) → Spent 0 s.known.names x → BothOut (Q n) Untold (put_line mk s (line_of room s.known.text_len x)) (put_line mk s (line_of room s.known.text_len x))
   unfolding line_of bytes
-  line_short room (said u (whole a)) p = go (leb (s.known.text_len + length a) (smaller room 1073741824)) refl
+  line_short room (said u (whole a) m) p = go _ (leb (s.known.text_len + length a) (smaller room 1073741824)) refl
     where
-      go : (b : Bool) → leb (s.known.text_len + length a) (smaller room 1073741824) ≡ b
-          → BothOut (Q n) (put_line mk s (elim b [ true ↦ fitting s.known.text_len u (whole a) | false ↦ cannot 17 ])) (put_line mk s (elim b [ true ↦ fitting s.known.text_len u (whole a) | false ↦ cannot 17 ]))
-      go true e = whole_short u a (small room (s.known.text_len + length a) (leb-true (s.known.text_len + length a) (smaller room 1073741824) e)) p
-      go false e = both_stuck 17
-  line_short room (said u (cut a c)) p = go (leb (s.known.text_len + length a) (smaller room 1073741824))
+      go : (w : Apart) (b : Bool) → leb (s.known.text_len + length a) (smaller room 1073741824) ≡ b
+          → BothOut (Q n) Untold (put_line mk s (elim b [ true ↦ fitting s.known.text_len u (whole a) | false ↦ cannot w 17 ])) (put_line mk s (elim b [ true ↦ fitting s.known.text_len u (whole a) | false ↦ cannot w 17 ]))
+      go w true e = whole_short u a (small room (s.known.text_len + length a) (leb-true (s.known.text_len + length a) (smaller room 1073741824) e)) p
+      go w false e = both_stuck w w tt 17
+  line_short room (said u (cut a c) m) p = go _ (leb (s.known.text_len + length a) (smaller room 1073741824))
     where
-      go : (b : Bool) → BothOut (Q n) (put_line mk s (elim b [ true ↦ fitting s.known.text_len u (cut a c) | false ↦ cannot 17 ])) (put_line mk s (elim b [ true ↦ fitting s.known.text_len u (cut a c) | false ↦ cannot 17 ]))
-      go true = cut_short u a c
-      go false = both_stuck 17
+      go : (w : Apart) (b : Bool) → BothOut (Q n) Untold (put_line mk s (elim b [ true ↦ fitting s.known.text_len u (cut a c) | false ↦ cannot w 17 ])) (put_line mk s (elim b [ true ↦ fitting s.known.text_len u (cut a c) | false ↦ cannot w 17 ]))
+      go w true = cut_short u a c
+      go w false = both_stuck w w tt 17
 
 module _ (B : Btf) where
   abbrev n : ℕ
   n = B.type_cnt
 
-  fwd_short : (s t : Ls (Known Apart)) → Q n s t → (x : ℕ) → x < n → BothOut (Q n) ((machine_by (apart B) B).fwd_line s x) ((machine_by (apart B) B).fwd_line t x)
+  fwd_short : (s t : Ls (Known Apart)) → Q n s t → (x : ℕ) → x < n → BothOut (Q n) Untold ((machine_by (apart B) B).fwd_line s x) ((machine_by (apart B) B).fwd_line t x)
   fwd_short s t h x l =
-      subst (λ (k : Ls (Known Apart)). BothOut (Q n) ((machine_by (apart B) B).fwd_line k x) ((machine_by (apart B) B).fwd_line t x)) (sym h.0)
+      subst (λ (k : Ls (Known Apart)). BothOut (Q n) Untold ((machine_by (apart B) B).fwd_line k x) ((machine_by (apart B) B).fwd_line t x)) (sym h.0)
       (line_short n other t h.1 t.room (forward (apart B) B x (B.type_by_id x) t.known.names) ((s_forward B x (B.type_by_id x)).spends t.known.names))
 
   def_short : (mk : List ℕ → Piece) (s t : Ls (Known Apart)) → Q n s t → (x : ℕ)
-      → BothOut (Q n) (put_line mk s ((lines_by (apart B) B).body' s.room s.known x)) (put_line mk t ((lines_by (apart B) B).body' t.room t.known x))
+      → BothOut (Q n) Untold (put_line mk s ((lines_by (apart B) B).body' s.room s.known x)) (put_line mk t ((lines_by (apart B) B).body' t.room t.known x))
   def_short mk s t h x =
-      subst (λ (k : Ls (Known Apart)). BothOut (Q n) (put_line mk k ((lines_by (apart B) B).body' k.room k.known x)) (put_line mk t ((lines_by (apart B) B).body' t.room t.known x))) (sym h.0)
+      subst (λ (k : Ls (Known Apart)). BothOut (Q n) Untold (put_line mk k ((lines_by (apart B) B).body' k.room k.known x)) (put_line mk t ((lines_by (apart B) B).body' t.room t.known x))) (sym h.0)
       (line_short n mk t h.1 t.room (definition (apart B) B x (B.type_by_id x) t.known.names) ((s_definition B x (B.type_by_id x)).spends t.known.names))
 
-  shorts : AlikeMachine (machine_by (apart B) B) (machine_by (apart B) B) n (Sized n) (Q n)
+  shorts : AlikeMachine (machine_by (apart B) B) (machine_by (apart B) B) n (Sized n) (Q n) Untold
   shorts = record {
     a_store = record {
       a_good = λ s t h. h.1.sized;
@@ -116,6 +120,8 @@ module _ (B : Btf) where
     a_alias = fwd_short;
     a_leaf = λ s t h x l. def_short other s t h x;
     a_body = λ s t h x l. def_short (defines x) s t h x;
+    a_held = λ s t h. tt;
+    a_leaving = λ u w r s t h. h;
   }
 
   module _ (below : WF (table_of B)) where
@@ -123,7 +129,7 @@ module _ (B : Btf) where
     unfolding run
     run_short [] S h = h
     run_short (r ∷ rs) S h =
-        run_short rs _ (serve_alike (machine_by (apart B) B) (machine_by (apart B) B) (table_of B) (Sized n) (machine_lawful (apart B) B n) below.below (Q n) shorts S S h r)
+        run_short rs _ (serve_alike (machine_by (apart B) B) (machine_by (apart B) B) (table_of B) (Sized n) (machine_lawful (apart B) B n) below.below (Q n) Untold shorts S S h r)
 
     opened_short : BothSess (Q n) (opened_by (apart B) B (none_shown B)) (opened_by (apart B) B (none_shown B))
     unfolding afresh

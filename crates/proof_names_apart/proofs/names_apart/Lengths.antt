@@ -8,19 +8,20 @@ use lib.ListN.{length, get_or, set, length-append}
 use lib.Dec.{ltb, eqb}
 use Rattle.spec_bytes.specs.text.Text.{ascii, whole, cut, join}
 use Rattle.spec_bytes.specs.text.Decimal.{decimal}
-use Rattle.spec_c_dumper.specs.rules.Writer.{Ask, got, no, Said, said, Writer, ◌⨾◌, put, stop, given, after, next}
+use Rattle.spec_c_dumper.specs.rules.Writer.{reserve_passed, Ask, got, no, Said, said, Writer, ◌⨾◌, put, stop, given, after, next}
 use Rattle.spec_c_dumper.specs.rules.Types.{Name, is_empty, Member, Param, Enumerator, BtfType, Void, Int, Ptr, Array, Composite, Enum, Enum64, Fwd, Typedef, Mod, Func, Var, Datasec, FuncProto, Float, DeclTag, TypeTag, Btf}
 use Rattle.spec_c_dumper.specs.rules.Layout.{Pad, bit_padding, end_of}
 use Rattle.spec_c_dumper.specs.rules.Placing.{body_packed, tail_pads}
 use Rattle.spec_c_dumper.specs.rules.Names.{Space, tag_space, ident_space, Resolved, resolving, spelled, resolve_type_name, resolve_name, builtin, with_one}
 use Rattle.spec_c_dumper.specs.rules.Decl.{deeper, enum_value, enum64_value, Entry, base, star, qual, array, proto, tag, chain_of, no_mods, is_array, no_params, shown_params, emit_composite_fwd, emit_fwd_def, enum_word, emit_values, enum_body, emit_enum_def, emit_name, parens, emit_param, emit_params, base_word, emit_array, emit_proto, param_list, chain_loop, emit_members, composite_head, composite_end, composite_body, composite_def, emit_type_decl, emit_type_chain, emit_composite_def, emit_typedef_def}
 use Rattle.spec_c_dumper.specs.rules.Emit.{definition, shown, forward}
+use Rattle.spec_c_dumper.proofs.rules.Held.{resolved}
 use Rattle.spec_c_dumper.specs.names_apart.Apart.{of_type, Apart, number_for, shown as shown_in, type_apart, value_apart, apart}
 
 -- the names printed, and k bytes more, are no more than those printed before and the bytes of the text
 abbrev pub Spent : ℕ → Apart → Said Apart → Type 0
-Spent k u (said v (whole a)) = length v.printed + k ≤ length u.printed + length a
-Spent k u (said v (cut a c)) = Unit {0}
+Spent k u (said v (whole a) m) = length v.printed + k ≤ length u.printed + length a
+Spent k u (said v (cut a c) m) = Unit {0}
 
 pub record S (k : ℕ) (w : Writer Apart) : Type 0 where
   pub spends : (u : Apart) → Spent k u (w u)
@@ -36,15 +37,15 @@ s_stop : (k c : ℕ) → S k (stop c)
 unfolding stop
 s_stop k c = record { spends = λ u. tt }
 
-spent_after : (j k : ℕ) (u v : Apart) (a : List ℕ) (s : Said Apart) → length v.printed + j ≤ length u.printed + length a → Spent k v s → Spent (j + k) u (after a s)
+spent_after : (j k : ℕ) (u v : Apart) (a : List ℕ) (m : List Apart) (s : Said Apart) → length v.printed + j ≤ length u.printed + length a → Spent k v s → Spent (j + k) u (after a m s)
 unfolding after join
-spent_after j k u v a (said w (whole b)) h q = omega (arith, h, q, length-append a b)
-spent_after j k u v a (said w (cut b c)) h q = tt
+spent_after j k u v a m (said w (whole b) n) h q = omega (arith, h, q, length-append a b)
+spent_after j k u v a m (said w (cut b c) n) h q = tt
 
 spent_next : (j k : ℕ) (u : Apart) (s : Said Apart) (w : Writer Apart) → Spent j u s → S k w → Spent (j + k) u (next s w)
 unfolding next
-spent_next j k u (said v (whole a)) w h q = spent_after j k u v a (w v) h (q.spends v)
-spent_next j k u (said v (cut a c)) w h q = tt
+spent_next j k u (said v (whole a) m) w h q = spent_after j k u v a m (w v) h (q.spends v)
+spent_next j k u (said v (cut a c) m) w h q = tt
 
 s_then : (j k : ℕ) (v w : Writer Apart) → S j v → S k w → S (j + k) (v ⨾ w)
 unfolding ◌⨾◌
@@ -70,22 +71,26 @@ s_given (no c) h = s_stop 0 c
 
 -- one more name is printed at each asking
 spent_one : (u v : Apart) (s : Said Apart) → length v.printed ≡ suc (length u.printed) → Spent 1 v s → Spent 0 u s
-spent_one u v (said w (whole a)) e h = omega (arith, e, h)
-spent_one u v (said w (cut a c)) e h = tt
+spent_one u v (said w (whole a) m) e h = omega (arith, e, h)
+spent_one u v (said w (cut a c) m) e h = tt
 
 s_resolving : (f : Apart → Resolved Apart) → ((u : Apart) → length (f u).names.printed ≡ suc (length u.printed)) → (k : ℕ → Writer Apart) → ((n : ℕ) → S 1 (k n)) → S 0 (resolving f k)
-unfolding resolving
-s_resolving f e k h = record { spends = λ u. spent_one u (f u).names (k (f u).version (f u).names) (e u) ((h (f u).version).spends (f u).names) }
+s_resolving f e k h = record {
+  spends = λ u.
+      resolved (Spent 0 u) f k u (λ o. (s_stop 0 reserve_passed).spends u) (λ o. spent_one u (f u).names (k (f u).version (f u).names) (e u) ((h (f u).version).spends (f u).names));
+}
 
 module _ (B : Btf) where
   module _ (u : Apart) (space : Space) (id : ℕ) (name : Name) where
     abbrev by : Bool → Resolved Apart
     by b = elim b as (λ (t : Bool). Resolved Apart) [
       | false ↦ record {
+        passes = false;
         version = get_or u.names.versions id 0;
         names = record { names = u.names; printed = shown_in space (of_type id) name (get_or u.names.versions id 0) u };
       }
       | true ↦ record {
+        passes = false;
         version = number_for B space name u;
         names = record {
           names = record { versions = set u.names.versions id (number_for B space name u); ledger = with_one u.names.ledger space name };

@@ -89,10 +89,12 @@ module _ (B : Btf) where
     abbrev by : Bool → Resolved Apart
     by b = elim b as (λ (t : Bool). Resolved Apart) [
       | false ↦ record {
+        passes = false;
         version = get_or u.names.versions id 0;
         names = record { names = u.names; printed = shown space (of_type id) name (get_or u.names.versions id 0) u };
       }
       | true ↦ record {
+        passes = false;
         version = number_for B space name u;
         names = record {
           names = record { versions = set u.names.versions id (number_for B space name u); ledger = with_one u.names.ledger space name };
@@ -134,13 +136,16 @@ module _ (B : Btf) where
   going : RelNaming Going (Fits B) (FitsValue B) (apart B) (apart B)
   going = record {
     rel_type = λ space id name f e u v r. (
+      ap (λ (x : Apart). (type_apart B space id name x).passes) r.0,
       ap (λ (x : Apart). (type_apart B space id name x).version) r.0,
       (ap (λ (x : Apart). (type_apart B space id name x).names) r.0, type_fair space id name f u r.1),
     );
     rel_value = λ id i name f u v r. (
+      ap (λ (x : Apart). (value_apart B id i name x).passes) r.0,
       ap (λ (x : Apart). (value_apart B id i name x).version) r.0,
       (ap (λ (x : Apart). (value_apart B id i name x).names) r.0, value_fair id i name f u r.1),
     );
+    rel_leaving = λ h x q u v r. r;
   }
 
 -- ---- of what was printed
@@ -176,7 +181,7 @@ module _ (B : Btf) (ends : Ends B) (below : WF (table_of B)) where
   run_going [] S h = h
   run_going (r ∷ rs) S h =
       run_going rs _ (serve_alike (machine_by (apart B) B) (machine_by (apart B) B) (table_of B) (Sized B.type_cnt) (machine_lawful (apart B) B B.type_cnt) below.below Q
-      (names_alike (Going B) (Fits B) (FitsValue B) (apart B) (apart B) (going B) B (fits B ends)) S S h r)
+      (Going B) (names_alike (Going B) (Fits B) (FitsValue B) (apart B) (apart B) (going B) B (fits B ends)) S S h r)
 
   none_fair : Fair B (none_shown B)
   unfolding holders

@@ -17,10 +17,10 @@ use Rattle.proof_names_apart.proofs.none_passed.Stops.{AnswerUp, single_up, ever
 use Rattle.proof_names_apart.proofs.none_passed.Lines.{AnyName, AnyValue, any_fits, counting, lines_same, watched_names, Rel, counting_names, lines_up}
 
 module _ (N : Naming Watched) (B : Btf) where
-  answer_up : (S : Sess (Ls (Known Watched))) (r : Req) → AnswerUp (Known Watched) 23 (answer_watched (lines_watched N B) (table_of B) S r) (answer_to N B S r)
+  answer_up : (S : Sess (Ls (Known Watched))) (r : Req) → AnswerUp (Known Watched) Watched 23 (answer_watched (lines_watched N B) (table_of B) S r) (answer_to N B S r)
   unfolding answer_watched answer_to
-  answer_up S (one room x) = single_up (Known Watched) 23 (lines_watched N B) (lines_by N B) (table_of B) (lines_up N B) room S x
-  answer_up S (all room) = every_up (Known Watched) 23 (lines_watched N B) (lines_by N B) (table_of B) (lines_up N B) room S S.is_open
+  answer_up S (one room x) = single_up (Known Watched) Watched 23 (lines_watched N B) (lines_by N B) (table_of B) (lines_up N B) room S x
+  answer_up S (all room) = every_up (Known Watched) Watched 23 (lines_watched N B) (lines_by N B) (table_of B) (lines_up N B) room S S.is_open
 
   -- where no request is refused for it, watching changes nothing
   unwatched : (rs : List Req) (ns : List (ℕ × ℕ)) (S : Sess (Ls (Known Watched))) → NeverOver (lines_watched N B) (table_of B) rs S → dumped_watched (lines_watched N B) (table_of B) ns rs S ≡ dumped N B ns rs S
@@ -39,8 +39,8 @@ module _ (B : Btf) (below : WF (table_of B)) (rs : List Req) (h : PassesNone B r
 
   is_old : dump_watched B rs ≡ dump_types B rs
   is_old =
-      ap (λ (L : Lines (Known Watched)). dumped_watched L (table_of B) [] rs (opened_watched B)) (lines_same B)
-      ∙ unwatched (counting B) B rs [] (opened_watched B) (subst (λ (L : Lines (Known Watched)). NeverOver L (table_of B) rs (opened_watched B)) (lines_same B) h)
+      ap (λ (L : Lines (Known Watched) Watched). dumped_watched L (table_of B) [] rs (opened_watched B)) (lines_same B)
+      ∙ unwatched (counting B) B rs [] (opened_watched B) (subst (λ (L : Lines (Known Watched) Watched). NeverOver L (table_of B) rs (opened_watched B)) (lines_same B) h)
       ∙ dumps_alike (Rel B) AnyName AnyValue (counting B) naming (counting_names B) B (λ id. any_fits id (B.type_by_id id)) below (none_watched B) (no_names B) refl rs
 
 pub both_alike : Claim

@@ -24,7 +24,7 @@ told_once true false e = absurd (omega arith)
 told_once false true e = absurd (omega arith)
 told_once false false e = refl
 
-pub past_number : {M : Type 0} (X : Machine M) (T : Table) (room : ℕ) (S : Sess M) → (single X T room S T.count).number ≡ told S.is_open
+pub past_number : {M H : Type 0} (X : Machine M H) (T : Table) (room : ℕ) (S : Sess M) → (single X T room S T.count).number ≡ told S.is_open
 unfolding single gate
 past_number X T room S = ap (λ (b : Bool). (gate X T room S T.count S.is_open b).number) (le-ltb T.count T.count (le_refl T.count)) ∙ go S.is_open
   where
@@ -36,7 +36,7 @@ not_over : (b : Bool) → told b ≡ passed_over → ⊥
 not_over true e = absurd (omega arith)
 not_over false e = absurd (omega arith)
 
-module _ (L : Lines (Known Watched)) (T : Table) where
+module _ (L : Lines (Known Watched) Watched) (T : Table) where
   never_past : (rs : List Req) (S : Sess (Ls (Known Watched))) → NeverOver L T rs S → NeverOver L T (rs ++ (one 0 T.count ∷ [])) S
   unfolding answer_watched
   never_past [] S h = (λ e. not_over S.is_open (sym (past_number (list_machine L) T 0 S) ∙ e), tt)

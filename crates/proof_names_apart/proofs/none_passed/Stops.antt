@@ -11,52 +11,57 @@ use Rattle.spec_c_dumper.specs.rules.Machine.{Out, wrote, stuck, Machine, is_zer
 use Rattle.spec_c_dumper.specs.needs.Lists.{Piece, defines, other, Line, cannot, Lines, Ls, put_line, list_machine}
 
 -- the number is not 0
-module _ (U : Type 0) (n : ℕ) where
+module _ (U H : Type 0) (n : ℕ) where
   abbrev M : Type 0
   M = Ls U
 
   -- refused by that number, or the same
-  abbrev pub LineUp : Line U → Line U → Type 0
-  LineUp l' l = (l' ≡ cannot (suc n)) ⊎ (l' ≡ l)
+  abbrev pub LineUp : Line U H → Line U H → Type 0
+  LineUp l' l = ((h : H) × (l' ≡ cannot h (suc n))) ⊎ (l' ≡ l)
 
-  abbrev OutUp : Out M → Out M → Type 0
-  OutUp o' o = (o' ≡ stuck (suc n)) ⊎ (o' ≡ o)
+  abbrev OutUp : Out M H → Out M H → Type 0
+  OutUp o' o = ((h : H) × (o' ≡ stuck h (suc n))) ⊎ (o' ≡ o)
 
   abbrev pub AnswerUp : Answer M → Answer M → Type 0
   AnswerUp a' a = (a'.number ≡ suc n) ⊎ (a' ≡ a)
 
-  pub record LinesUp (L' L : Lines U) : Type 0 where
+  pub record LinesUp (L' L : Lines U H) : Type 0 where
     pub fwd_up : (room : ℕ) (k : U) (id : ℕ) → LineUp (L'.fwd room k id) (L.fwd room k id)
     pub alias_up : (room : ℕ) (k : U) (id : ℕ) → LineUp (L'.alias' room k id) (L.alias' room k id)
     pub leaf_up : (room : ℕ) (k : U) (id : ℕ) → LineUp (L'.leaf' room k id) (L.leaf' room k id)
     pub body_up : (room : ℕ) (k : U) (id : ℕ) → LineUp (L'.body' room k id) (L.body' room k id)
+    pub held_up : (k : U) → L'.held' k ≡ L.held' k
+    pub leaving_up : (h : H) (k : U) → L'.leaving' h k ≡ L.leaving' h k
 
-  put_up : (mk : List ℕ → Piece) (s : M) (l' l : Line U) → LineUp l' l → OutUp (put_line mk s l') (put_line mk s l)
-  put_up mk s l' l (inl q) = inl (ap (put_line mk s) q)
+  put_up : (mk : List ℕ → Piece) (s : M) (l' l : Line U H) → LineUp l' l → OutUp (put_line mk s l') (put_line mk s l)
+  put_up mk s l' l (inl q) = inl (q.0, ap (put_line mk s) q.1)
   put_up mk s l' l (inr q) = inr (ap (put_line mk s) q)
 
-  bind_up : (o' o : Out M) (k' k : M → Out M) → OutUp o' o → ((s : M) → OutUp (k' s) (k s)) → OutUp (obind o' k') (obind o k)
+  bind_up : (o' o : Out M H) (k' k : M → Out M H) → OutUp o' o → ((s : M) → OutUp (k' s) (k s)) → OutUp (obind o' k') (obind o k)
   unfolding obind
-  bind_up o' o k' k (inl q) h = inl (ap (λ (z : Out M). obind z k') q)
-  bind_up o' o k' k (inr q) h = subst (λ (z : Out M). OutUp (obind z k') (obind o k)) (sym q) (go o)
+  bind_up o' o k' k (inl q) h = inl (q.0, ap (λ (z : Out M H). obind z k') q.1)
+  bind_up o' o k' k (inr q) h = subst (λ (z : Out M H). OutUp (obind z k') (obind o k)) (sym q) (go o)
     where
-      go : (z : Out M) → OutUp (obind z k') (obind z k)
+      go : (z : Out M H) → OutUp (obind z k') (obind z k)
       go (wrote s) = h s
-      go (stuck c) = inr refl
+      go (stuck m c) = inr refl
 
-  each_up : (f' f : M → ℕ → Out M) → ((s : M) (y : ℕ) → OutUp (f' s y) (f s y)) → (ys : List ℕ) (s : M) → OutUp (eeach f' ys s) (eeach f ys s)
+  each_up : (f' f : M → ℕ → Out M H) → ((s : M) (y : ℕ) → OutUp (f' s y) (f s y)) → (ys : List ℕ) (s : M) → OutUp (eeach f' ys s) (eeach f ys s)
   unfolding eeach
   each_up f' f h [] s = inr refl
   each_up f' f h (y ∷ ys) s = bind_up (f' s y) (f s y) (eeach f' ys) (eeach f ys) (h s y) (λ s₁. each_up f' f h ys s₁)
 
-  module _ (L' L : Lines U) (T : Table) (h : LinesUp L' L) where
-    abbrev X' : Machine M
+  module _ (L' L : Lines U H) (T : Table) (h : LinesUp L' L) where
+    abbrev X' : Machine M H
     X' = list_machine L'
 
-    abbrev X : Machine M
+    abbrev X : Machine M H
     X = list_machine L
 
-    once_up : (w' w : M → ℕ → Out M) → ((s : M) (x : ℕ) → OutUp (w' s x) (w s x)) → (x : ℕ) (b : Bool) (s : M) → OutUp (once X' T w' x b s) (once X T w x b s)
+    held_at : (s : M) (c : ℕ) → ◌≡◌ {A = Out M H} (stuck (X'.held s) c) (stuck (X.held s) c)
+    held_at s c = ap (λ (m : H). stuck m c) (h.held_up s.known)
+
+    once_up : (w' w : M → ℕ → Out M H) → ((s : M) (x : ℕ) → OutUp (w' s x) (w s x)) → (x : ℕ) (b : Bool) (s : M) → OutUp (once X' T w' x b s) (once X T w x b s)
     unfolding once
     once_up w' w hw x true s = inr refl
     once_up w' w hw x false s = bind_up (w' s x) (w s x) (λ s₁. wrote (X'.forwarded x s₁)) (λ s₁. wrote (X.forwarded x s₁)) (hw s x) (λ s₁. inr refl)
@@ -71,7 +76,7 @@ module _ (U : Type 0) (n : ℕ) where
     unfolding mention
     mention_up true nm x s = inr refl
     mention_up false true x s = once_up X'.fwd_line X.fwd_line fwd_line x false s
-    mention_up false false x s = inr refl
+    mention_up false false x s = inr (held_at s 13)
 
     again_up : (s : M) (x cont : ℕ) (nd : Node) → OutUp (again X' T s x cont nd) (again X T s x cont nd)
     unfolding again
@@ -98,7 +103,7 @@ module _ (U : Type 0) (n : ℕ) where
         (put_up other s (L'.leaf' s.room s.known x) (L.leaf' s.room s.known x) (h.leaf_up s.room s.known x)) (λ s₁. inr refl)
     leaf_is_up false x s = inr refl
 
-    module _ (r' r : M → ℕ → ℕ → Out M) (hr : (s : M) (x c : ℕ) → OutUp (r' s x c) (r s x c)) (s : M) (x cont : ℕ) where
+    module _ (r' r : M → ℕ → ℕ → Out M H) (hr : (s : M) (x c : ℕ) → OutUp (r' s x c) (r s x c)) (s : M) (x cont : ℕ) where
       within_up : (b nm : Bool) (ms : List ℕ) → OutUp (within X' T r' s x cont b nm ms) (within X T r s x cont b nm ms)
       unfolding within
       within_up true nm ms = each_up (λ s₁ y. r' s₁ y (pick nm x cont)) (λ s₁ y. r s₁ y (pick nm x cont)) (λ s₁ y. hr s₁ y (pick nm x cont)) ms (X.emark busy x s)
@@ -124,7 +129,7 @@ module _ (U : Type 0) (n : ℕ) where
 
       allowed_up : (b : Bool) → OutUp (allowed X' T r' s x cont b) (allowed X T r s x cont b)
       unfolding allowed
-      allowed_up true = inr refl
+      allowed_up true = inr (held_at s 14)
       allowed_up false = begin_up (is_zero cont) (T.node x)
 
       look_up : (m : Mark) → OutUp (look X' T r' s x cont m) (look X T r s x cont m)
@@ -135,23 +140,34 @@ module _ (U : Type 0) (n : ℕ) where
 
     emit_up : (k : ℕ) (s : M) (x cont : ℕ) → OutUp (emit X' T k s x cont) (emit X T k s x cont)
     unfolding emit
-    emit_up zero s x cont = inr refl
+    emit_up zero s x cont = inr (held_at s 12)
     emit_up (suc k) s x cont = look_up (λ s₁ y c. emit X' T k s₁ y c) (λ s₁ y c. emit X T k s₁ y c) (λ s₁ y c. emit_up k s₁ y c) s x cont (X.eget s x)
 
     -- ---- requests
-    emitted_up : (S : Sess M) (x : ℕ) (o' o : Out M) → OutUp o' o → AnswerUp (emitted X' T S x o') (emitted X T S x o)
+    shut_same : (S : Sess M) (m : H) (c : ℕ) → shut X' T S m c ≡ shut X T S m c
+    unfolding shut
+    shut_same S m c = λ i. record {
+      sess = record {
+        is_open = false;
+        mach = record { marks = S.mach.marks; olist = S.mach.olist; emits = S.mach.emits; fwds = S.mach.fwds; room = S.mach.room; known = h.leaving_up m S.mach.known i; pieces = S.mach.pieces };
+        asked = S.asked;
+      };
+      number = c;
+    }
+
+    emitted_up : (S : Sess M) (x : ℕ) (o' o : Out M H) → OutUp o' o → AnswerUp (emitted X' T S x o') (emitted X T S x o)
     unfolding emitted shut
-    emitted_up S x o' o (inl q) = inl (ap (λ (z : Out M). (emitted X' T S x z).number) q)
+    emitted_up S x o' o (inl q) = inl (ap (λ (z : Out M H). (emitted X' T S x z).number) q.1)
     emitted_up S x o' o (inr q) = inr (ap (emitted X' T S x) q ∙ go o)
       where
-        go : (z : Out M) → emitted X' T S x z ≡ emitted X T S x z
+        go : (z : Out M H) → emitted X' T S x z ≡ emitted X T S x z
         go (wrote m) = refl
-        go (stuck c) = refl
+        go (stuck m c) = shut_same S m c
 
     ordered_up : (S : Sess M) (x : ℕ) (r : Res M) → AnswerUp (ordered X' T S x r) (ordered X T S x r)
     unfolding ordered shut
     ordered_up S x (ok s b) = emitted_up S x _ _ (each_up (λ m y. emit X' T 512 m y 0) (λ m y. emit X T 512 m y 0) (λ m y. emit_up 512 m y 0) (X.store.list s) s)
-    ordered_up S x (refused c) = inr refl
+    ordered_up S x (refused c) = inr (ap (λ (m : H). shut X' T S m c) (h.held_up S.mach.known) ∙ shut_same S (X.held S.mach) c)
 
     gate_up : (room : ℕ) (S : Sess M) (x : ℕ) (o below : Bool) → AnswerUp (gate X' T room S x o below) (gate X T room S x o below)
     unfolding gate

@@ -189,10 +189,12 @@ module _ (B : Btf) (T : Lists) (right : Right B T) where
     abbrev new_by : Bool → Resolved Apart
     new_by b = elim b as (λ (t : Bool). Resolved Apart) [
       | false ↦ record {
+        passes = false;
         version = get_or u.names.versions id 0;
         names = record { names = u.names; printed = shown space (of_type id) name (get_or u.names.versions id 0) u };
       }
       | true ↦ record {
+        passes = false;
         version = number_for B space name u;
         names = record {
           names = record { versions = set u.names.versions id (number_for B space name u); ledger = with_one u.names.ledger space name };
@@ -203,8 +205,9 @@ module _ (B : Btf) (T : Lists) (right : Right B T) where
 
     abbrev list_by : Bool → Resolved Names
     list_by b = elim b as (λ (t : Bool). Resolved Names) [
-      | false ↦ record { version = get_or u.names.versions id 0; names = u.names }
+      | false ↦ record { passes = false; version = get_or u.names.versions id 0; names = u.names }
       | true ↦ record {
+        passes = false;
         version = next_number T space name u.names;
         names = record { versions = set u.names.versions id (next_number T space name u.names); ledger = with_one u.names.ledger space name };
       }
@@ -224,6 +227,7 @@ module _ (B : Btf) (T : Lists) (right : Right B T) where
 
     by_like : (b : Bool) → eqb (get_or u.names.versions id 0) 0 ≡ b → RelResolved Like (new_by b) (list_by b)
     by_like true q = (
+      refl,
       usual_number space name f.2 u h,
       (
         ap {B = Names} (λ (x : ℕ). record { versions = set u.names.versions id x; ledger = with_one u.names.ledger space name }) (usual_number space name f.2 u h),
@@ -232,6 +236,7 @@ module _ (B : Btf) (T : Lists) (right : Right B T) where
       ),
     )
     by_like false q = (
+      refl,
       refl,
       (
         refl,
@@ -255,7 +260,7 @@ module _ (B : Btf) (T : Lists) (right : Right B T) where
   unfolding value_apart value_passed
   value_like id i name f u h =
       let e : number_for B ident_space name u ≡ number_over (T ident_space name) (one_more (holders u.names.ledger ident_space name)) = usual_number ident_space name f u h in
-      (e, (refl, subst Usual (ap then (sym e)) (usual_then ident_space name f u h (of_value id i) u.names.versions (λ x. inl refl))))
+      (refl, e, (refl, subst Usual (ap then (sym e)) (usual_then ident_space name f u h (of_value id i) u.names.versions (λ x. inl refl))))
     where
       then : ℕ → Apart
       then x = record {
@@ -267,6 +272,7 @@ module _ (B : Btf) (T : Lists) (right : Right B T) where
   like = record {
     rel_type = λ space id name f e u v r. subst (λ (w : Names). RelResolved Like (type_apart B space id name u) (type_passed T space id name w)) r.0 (type_like space id name f u r.1);
     rel_value = λ id i name f u v r. subst (λ (w : Names). RelResolved Like (value_apart B id i name u) (value_passed T name w)) r.0 (value_like id i name f u r.1);
+    rel_leaving = λ h x q u v r. r;
   }
 
   pub none_usual : Usual (none_shown B)

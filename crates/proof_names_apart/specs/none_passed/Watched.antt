@@ -11,7 +11,7 @@ use Rattle.spec_c_dumper.specs.rules.Names.{Space, ident_space, Resolved, Naming
 use Rattle.spec_c_dumper.specs.rules.Emit.{definition, forward}
 use Rattle.spec_c_dumper.specs.needs.Lists.{Line, cannot, Lines, Ls, list_machine}
 use Rattle.spec_c_dumper.specs.needs.Session.{Known, line_of, text_of, Dump, dump, opened_by}
-use Rattle.spec_c_dumper.specs.names_apart.Apart.{Apart, is_name_among, taken, type_apart, value_apart, none_shown}
+use Rattle.spec_c_dumper.specs.names_apart.Apart.{Apart, is_name_among, taken, type_apart, value_apart, none_shown, apart}
 
 -- The first holder is bare and passes none over. A later one looks first at the number after the holders there are: if that one is free it
 -- is taken, and else it is passed over.
@@ -28,6 +28,7 @@ pub record Watched : Type 0 where
 -- a type that has a number keeps it, and looks for none
 unfoldable pub type_watched : Btf → Space → ℕ → Name → Watched → Resolved Watched
 type_watched B space id name w = record {
+  passes = (type_apart B space id name w.names).passes;
   version = (type_apart B space id name w.names).version;
   names = record {
     names = (type_apart B space id name w.names).names;
@@ -37,12 +38,17 @@ type_watched B space id name w = record {
 
 unfoldable pub value_watched : Btf → ℕ → ℕ → Name → Watched → Resolved Watched
 value_watched B id i name w = record {
+  passes = (value_apart B id i name w.names).passes;
   version = (value_apart B id i name w.names).version;
   names = record { names = (value_apart B id i name w.names).names; over = passes_over B ident_space name w.names || w.over };
 }
 
 abbrev pub watched : Btf → Naming Watched
-watched B = record { type_version = type_watched B; value_version = value_watched B }
+watched B = record {
+  type_version = type_watched B;
+  value_version = value_watched B;
+  leaving = λ held w. record { names = (apart B).leaving held.names w.names; over = w.over };
+}
 
 -- ---- sessions that stop where a number is passed over
 
@@ -51,19 +57,21 @@ abbrev pub passed_over : ℕ
 passed_over = 24
 
 -- a line that passes a number over is refused by it, also where the line would be refused by another
-unfoldable pub line_watched : ℕ → ℕ → Said Watched → Line (Known Watched)
-line_watched room len (said w t) = elim w.over [ true ↦ cannot passed_over | false ↦ line_of room len (said w t) ]
+unfoldable pub line_watched : ℕ → Known Watched → Said Watched → Line (Known Watched) Watched
+line_watched room k (said w t m) = elim w.over [ true ↦ cannot k.names passed_over | false ↦ line_of room k.text_len (said w t m) ]
 
 -- the lines of a session, as `lines_by` of crates/spec_c_dumper/specs/needs/Session
-abbrev pub lines_watched : Naming Watched → Btf → Lines (Known Watched)
+abbrev pub lines_watched : Naming Watched → Btf → Lines (Known Watched) Watched
 lines_watched N B = record {
-  fwd = λ room k id. line_watched room k.text_len (forward N B id (B.type_by_id id) k.names);
-  alias' = λ room k id. line_watched room k.text_len (forward N B id (B.type_by_id id) k.names);
-  leaf' = λ room k id. line_watched room k.text_len (definition N B id (B.type_by_id id) k.names);
-  body' = λ room k id. line_watched room k.text_len (definition N B id (B.type_by_id id) k.names);
+  fwd = λ room k id. line_watched room k (forward N B id (B.type_by_id id) k.names);
+  alias' = λ room k id. line_watched room k (forward N B id (B.type_by_id id) k.names);
+  leaf' = λ room k id. line_watched room k (definition N B id (B.type_by_id id) k.names);
+  body' = λ room k id. line_watched room k (definition N B id (B.type_by_id id) k.names);
+  held' = λ k. k.names;
+  leaving' = λ held k. record { names = N.leaving held k.names; text_len = k.text_len };
 }
 
-module _ (L : Lines (Known Watched)) (T : Table) where
+module _ (L : Lines (Known Watched) Watched) (T : Table) where
   unfoldable pub answer_watched : Sess (Ls (Known Watched)) → Req → Answer (Ls (Known Watched))
   answer_watched S (one room x) = single (list_machine L) T room S x
   answer_watched S (all room) = every (list_machine L) T room S S.is_open

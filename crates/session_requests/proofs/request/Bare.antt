@@ -29,15 +29,15 @@ use Rattle.c_dumper_emit.specs.dump_type.Kept.{with_leaders, dumped_kept}
 use Rattle.c_dumper_emit.proofs.dump_type.Kept.{forget_leaders, forget_with, dumped_bare}
 use Rattle.session_requests.proofs.request.Pens.{place_of, count_of, forgets}
 
-forget_none : (o : Out Slices) → forget (with_entries [] o) ≡ o
+forget_none : (o : Out Slices (Unit {0})) → forget (with_entries [] o) ≡ o
 unfolding forget with_entries
 forget_none (wrote m) = refl
-forget_none (stuck c) = refl
+forget_none (stuck h c) = refl
 
-none_listed : (m : Traced Slices) (o : Out Slices) → wrote m ≡ with_entries [] o → length m.entries ≡ 0
+none_listed : (m : Traced Slices) (o : Out Slices (Unit {0})) → wrote m ≡ with_entries [] o → length m.entries ≡ 0
 unfolding with_entries
 none_listed m (wrote k) e = let z : m ≡ record { mach = k; entries = [] } = cc in ap (λ (y : Traced Slices). length y.entries) z
-none_listed m (stuck c) e = absurd (let z : ◌≡◌ {A = ℕ} 0 1 = cc in omega arith)
+none_listed m (stuck h c) e = absurd (let z : ◌≡◌ {A = ℕ} 0 1 = cc in omega arith)
 
 module _ (b : TypeTable) (s w t l : List ℕ) (len id to : ℕ) (d : Penned) (u w' l' : List ℕ) (lim : Limit) (turn n : ℕ) (k k' : List ℕ)
     (e : with_leaders k' (traced_out 0 d u w' l') ≡ obind (with_leaders k (traced_out 0 (Ok (record { at = 0; count = 0 })) (mid_of len (to - len) t) w l)) (λ m. dumped_kept b (btf_of b s w) (record { lists = false; room = entries_in l }) lim m id turn n)) where
@@ -51,7 +51,7 @@ module _ (b : TypeTable) (s w t l : List ℕ) (len id to : ℕ) (d : Penned) (u 
   unfolding obind with_leaders entries_of
   came =
       sym (forget_with k' (traced_out 0 d u w' l'))
-      ∙ ap forget_leaders (e ∙ ap (λ (o : Out (Traced Slices)). obind (with_leaders k o) (λ m. dumped_kept b X (record { lists = false; room = entries_in l }) lim m id turn n)) (goes 0 (record { at = 0; count = 0 }) mid w l))
+      ∙ ap forget_leaders (e ∙ ap (λ (o : Out (Traced Slices) (Unit {0})). obind (with_leaders k o) (λ m. dumped_kept b X (record { lists = false; room = entries_in l }) lim m id turn n)) (goes 0 (record { at = 0; count = 0 }) mid w l))
       ∙ dumped_bare b X (entries_in l) lim (slices 0 0 mid w) [] k id turn n
 
   out_is : emit_out 0 (place_of d) u w' ≡ dumped_metered b X lim (slices 0 0 mid w) id n
@@ -72,11 +72,11 @@ module _ (b : TypeTable) (s w t l : List ℕ) (len id to : ℕ) (d : Penned) (u 
     pub as_plain : to ≡ limit_of (length t) len → (v : ℕ) (r : Reached) (t' : List ℕ) → reach_of r w' t' ≡ came_to len v t (emit_out 0 (place_of d) u w') → reach_of r w' t' ≡ requested b s id len v w t
     as_plain el v r t' er = er ∙ ap (came_to len v t) (out_is ∙ q) ∙ lent_is b s w t len id to v el
 
-  module _ (q : dumped_metered b X lim (slices 0 0 mid w) id n ≡ stuck 22) where
+  module _ (q : dumped_metered b X lim (slices 0 0 mid w) id n ≡ stuck tt 22) where
     pub never_inside : (p : Pen) → d ≡ Ok p → ⊥
     never_inside p f = no (sym (plainly.goes 0 p.at u w') ∙ sym (ap (λ (z : Penned). emit_out 0 (place_of z) u w') f) ∙ out_is ∙ q)
       where
-        no : ◌≡◌ {A = Out Slices} (wrote (slices 0 p.at u w')) (stuck 22) → ⊥
+        no : ◌≡◌ {A = Out Slices (Unit {0})} (wrote (slices 0 p.at u w')) (stuck tt 22) → ⊥
         no z = let y : ◌≡◌ {A = ℕ} 0 1 = cc in omega arith
 
     pub as_over : (v : ℕ) (r : Reached) (t' : List ℕ) → reach_of r w' t' ≡ came_to len v t (emit_out 0 (place_of d) u w') → reach_of r w' t' ≡ refused_by 22 len v (take len t)

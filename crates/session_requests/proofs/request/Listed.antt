@@ -34,8 +34,8 @@ use Rattle.session_requests.specs.options.Requests.{traced_of}
 use Rattle.session_requests.proofs.request.Pens.{place_of, count_of, forgets}
 
 -- ---- dump_one
-no_wrote : (c : ℕ) (m : Traced Slices) → stuck c ≡ wrote m → ⊥
-no_wrote c m q = let z : ◌≡◌ {A = ℕ} 0 1 = cc in omega arith
+no_wrote : (h : Unit {0}) (c : ℕ) (m : Traced Slices) → stuck h c ≡ wrote m → ⊥
+no_wrote h c m q = let z : ◌≡◌ {A = ℕ} 0 1 = cc in omega arith
 
 module _ (b : TypeTable) (few : b.types ≤ 262145) (s w t l : List ℕ) (len id to : ℕ) (small : id < 4294967296) (d : Penned) (u w' l' : List ℕ)
     (turn n : ℕ) (k k' : List ℕ) (size : length k ≡ 262145) (old : Before turn k)
@@ -46,12 +46,12 @@ module _ (b : TypeTable) (few : b.types ≤ 262145) (s w t l : List ℕ) (len id
   abbrev mid : List ℕ
   mid = mid_of len (to - len) t
 
-  abbrev F : (ℕ → Bool) → Out (Traced Slices)
+  abbrev F : (ℕ → Bool) → Out (Traced Slices) (Unit {0})
   F r = dumped_traced (work_machine b X) (table_of X) r (shows_in X) (slices 0 0 mid w) [] id
 
   came_leaders : with_leaders k' (traced_out 0 d u w' l') ≡ dumped_kept b X (record { lists = true; room = entries_in l }) unbounded (record { traced = record { mach = slices 0 0 mid w; entries = [] }; leaders = k }) id turn n
   unfolding obind with_leaders entries_of
-  came_leaders = e ∙ ap (λ (o : Out (Traced Slices)). obind (with_leaders k o) (λ m. dumped_kept b X (record { lists = true; room = entries_in l }) unbounded m id turn n)) (goes 0 (record { at = 0; count = 0 }) mid w l)
+  came_leaders = e ∙ ap (λ (o : Out (Traced Slices) (Unit {0})). obind (with_leaders k o) (λ m. dumped_kept b X (record { lists = true; room = entries_in l }) unbounded m id turn n)) (goes 0 (record { at = 0; count = 0 }) mid w l)
 
   came : traced_out 0 d u w' l' ≡ F (up_to (entries_in l))
   came = sym (forget_with k' (traced_out 0 d u w' l')) ∙ ap forget_leaders came_leaders ∙ dumped_kept_lem b X (few_types b s w few) (entries_in l) (slices 0 0 mid w) [] id small turn k size old n
@@ -68,7 +68,7 @@ module _ (b : TypeTable) (few : b.types ≤ 262145) (s w t l : List ℕ) (len id
     its_paper = ap (λ (z : Penned). traced_out 0 z u w' l') q ∙ goes 0 p u w' l'
 
     had_room : lined.need ≤ entries_in l
-    had_room = ⊎_elim (λ h. absurd (no_wrote 17 (traced_at 0 p u w' l') (sym (lined.short (entries_in l) zero-le h) ∙ sym came ∙ its_paper))) (λ h. h) (cases_lt (entries_in l) lined.need)
+    had_room = ⊎_elim (λ h. absurd (no_wrote (lined.short (entries_in l) zero-le h).0 17 (traced_at 0 p u w' l') (sym (lined.short (entries_in l) zero-le h).1 ∙ sym came ∙ its_paper))) (λ h. h) (cases_lt (entries_in l) lined.need)
 
     pub traced_before : Before (turn + 1) k'
     unfolding with_leaders

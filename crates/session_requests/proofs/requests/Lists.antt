@@ -110,7 +110,7 @@ clean_start len t = refl
 
 -- ---- a refused request's number
 module _ (room : ℕ) (b : TypeTable) (s : List ℕ) (id len v : ℕ) (w t : List ℕ) where
-  abbrev F : (ℕ → Bool) → Out (TracedOf Slices)
+  abbrev F : (ℕ → Bool) → Out (TracedOf Slices) (Unit {0})
   F r = dumped_traced (work_machine b (btf_of b s w)) (table_of (btf_of b s w)) r (shows_in (btf_of b s w)) (record { work = w; text = lent_to len t; at = 0; len = 0 }) [] id
 
   lined : Lined ⊥ 0 F (dumped (work_machine b (btf_of b s w)) (table_of (btf_of b s w)) (record { work = w; text = lent_to len t; at = 0; len = 0 }) id)
@@ -119,8 +119,8 @@ module _ (room : ℕ) (b : TypeTable) (s : List ℕ) (id len v : ℕ) (w t : Lis
   traced_reach : ((requested_traced (up_to room) b s id [] len v w t).reach ≡ requested b s id len v w t) ⊎ ((requested_traced (up_to room) b s id [] len v w t).reach ≡ refused_by 17 len v (take len t))
   unfolding requested_traced came_to_traced requested came_to forget
   traced_reach = ⊎_elim
-      (λ h. inr (ap (λ (o : Out (TracedOf Slices)). came_to len v t (forget o)) (lined.short room zero-le h)))
-      (λ h. inl (ap (λ (o : Out (TracedOf Slices)). came_to len v t (forget o)) (lined.fits room h) ∙ ap (came_to len v t) lined.same)) (cases_lt room lined.need)
+      (λ h. inr (ap (λ (o : Out (TracedOf Slices) (Unit {0})). came_to len v t (forget o)) (lined.short room zero-le h).1))
+      (λ h. inl (ap (λ (o : Out (TracedOf Slices) (Unit {0})). came_to len v t (forget o)) (lined.fits room h) ∙ ap (came_to len v t) lined.same)) (cases_lt room lined.need)
 
   module _ (short : len ≤ length t) where
     number_same : {a a' : ℕ} {d d' : ℕ} {e e' : ℕ} {u u' : List ℕ} → refused_by a d e u ≡ refused_by a' d' e' u' → a ≡ a'

@@ -92,7 +92,7 @@ module _ (t : List ℕ) (n : Placed) where
       go (Ok j) q = let p : j ≡ k = cc in (cc, ap Ok p)
       go (Err d) q = absurd (let z : ◌≡◌ {A = ℕ} 0 1 = cc in omega arith)
 
-bytes_join : (a : List ℕ) (y : Text) → bytes (join (whole a) y) ≡ a ++ bytes y
+pub bytes_join : (a : List ℕ) (y : Text) → bytes (join (whole a) y) ≡ a ++ bytes y
 unfolding bytes join
 bytes_join a (whole b) = refl
 bytes_join a (cut b c) = refl
@@ -106,7 +106,7 @@ unfolding join
 join_none (whole b) = refl
 join_none (cut b c) = refl
 
-none_of : (a : List ℕ) → length a ≤ 0 → a ≡ []
+pub none_of : (a : List ℕ) → length a ≤ 0 → a ≡ []
 none_of [] h = refl
 none_of (x ∷ a) h = absurd (omega arith)
 

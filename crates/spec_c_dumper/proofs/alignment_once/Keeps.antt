@@ -1,17 +1,17 @@
 -- What no naming and no question changes, no emitter by the remembering way changes. Assumes nothing.
 use Prim.Native.Nat.{ℕ, zero, suc, ◌+◌}
-use mathlib.Core.Path.{◌≡◌, ◌∙◌}
+use mathlib.Core.Path.{◌≡◌}
 use mathlib.Core.Bool.{Bool, true, false}
 use mathlib.Core.List.{List, [], ◌∷◌}
 use lib.ListN.{length}
-use Rattle.spec_c_dumper.specs.rules.Writer.{Ask, got, no, Writer, said_names, given}
+use Rattle.spec_c_dumper.specs.rules.Writer.{Ask, got, no, Writer, given}
 use Rattle.spec_c_dumper.specs.rules.Types.{Name, is_empty, Member, BtfType, Void, Int, Ptr, Array, Composite, Enum, Enum64, Fwd, Typedef, Mod, Func, Var, Datasec, FuncProto, Float, DeclTag, TypeTag, Btf}
 use Rattle.spec_c_dumper.specs.rules.Layout.{Pad, end_of}
 use Rattle.spec_c_dumper.specs.rules.Placing.{tail_pads}
 use Rattle.spec_c_dumper.specs.rules.Names.{Space, ident_space, Naming, spelled, resolve_type_name, builtin}
 use Rattle.spec_c_dumper.specs.rules.Decl.{Entry, deeper, chain_of, enum_value, enum64_value}
 use Rattle.spec_c_dumper.specs.rules.Emit.{shown}
-use Rattle.spec_c_dumper.proofs.rules.Keeps.{Keeps, keeps_put, keeps_stop, keeps_then, keeps_resolving, keeps_chain_loop, keeps_composite_head, keeps_composite_end, keeps_emit_enum_def, keeps_emit_fwd_def, keeps_emit_composite_fwd}
+use Rattle.spec_c_dumper.proofs.rules.Keeps.{Kept, Keeps, kept_as, keeps_put, keeps_stop, keeps_then, keeps_resolving, keeps_chain_loop, keeps_composite_head, keeps_composite_end, keeps_emit_enum_def, keeps_emit_fwd_def, keeps_emit_composite_fwd}
 use Rattle.spec_c_dumper.specs.alignment_once.Once.{Once, found, refused, memory_after}
 use Rattle.spec_c_dumper.specs.alignment_once.Writers.{Asks, answered, given_once, emit_members_once, composite_body_once, composite_def_once, emit_type_decl_once, emit_type_chain_once, emit_composite_def_once, emit_typedef_def_once, definition_once, forward_once}
 
@@ -20,8 +20,8 @@ module _ {U X : Type 0} (P : U → X) where
   unfolding given_once answered memory_after
   keeps_asked {A} ask f h on u = by (ask u) (h u)
     where
-      by : (q : Once U A) → P (memory_after q) ≡ P u → P (said_names (answered q f u)) ≡ P u
-      by (found a v k) e = on a v ∙ e
+      by : (q : Once U A) → P (memory_after q) ≡ P u → Kept P u (answered q f u)
+      by (found a v k) e = kept_as P u v e (f a v) (on a v)
       by (refused c v k) e = keeps_stop P c u
 
   keeps_given : {A : Type 0} (x : Ask A) (f : A → Writer U) → ((a : A) → Keeps P (f a)) → Keeps P (given x f)

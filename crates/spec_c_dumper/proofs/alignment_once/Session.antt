@@ -1,8 +1,8 @@
 -- A session by the remembering way: for every list of requests the same numbers, lengths and text as by the plain way, and visits that are at most types
 -- plus members. Assumes nothing.
-use Prim.Native.Nat.{ℕ, ◌+◌, ◌<◌, ◌≤◌}
+use Prim.Native.Nat.{ℕ, ◌+◌, ◌-◌, ◌<◌, ◌≤◌}
 use native.Mathlib.Omega.{arith}
-use mathlib.Core.Path.{◌≡◌, refl, ap, ◌∙◌, sym, subst}
+use mathlib.Core.Path.{◌≡◌, refl, ap, ap₂, ◌∙◌, sym, subst}
 use mathlib.Core.Bool.{Bool, true, false}
 use mathlib.Core.List.{List, [], ◌∷◌, ◌++◌}
 use mathlib.Core.Logic.{⊎_elim}
@@ -19,10 +19,10 @@ use Rattle.spec_c_dumper.specs.rules.Placing.{body_packed}
 use Rattle.spec_c_dumper.specs.rules.Names.{Naming}
 use Rattle.spec_c_dumper.specs.rules.Emit.{definition, forward}
 use Rattle.spec_c_dumper.proofs.rules.Keeps.{any_name, any_value}
-use Rattle.spec_c_dumper.proofs.rules.Related.{RelSaid, same, RelW, rel_stop, RelNaming, rel_closed}
+use Rattle.spec_c_dumper.proofs.rules.Related.{RelSaid, same, rel_at, RelW, rel_stop, RelNaming, rel_closed}
 use Rattle.spec_c_dumper.specs.needs.Needs.{WF}
 use Rattle.spec_c_dumper.specs.needs.Lists.{Piece, defines, other, cannot, Ls, put_line, afresh}
-use Rattle.spec_c_dumper.specs.needs.Session.{Known as Line-known, fitting, line_of, machine_by, opened_by, text_of, dump, answer_to, dumped}
+use Rattle.spec_c_dumper.specs.needs.Session.{Known as Line-known, names_at_stop, fitting, line_of, machine_by, opened_by, text_of, dump, answer_to, dumped}
 use Rattle.spec_c_dumper.proofs.needs.Lists.{Sized}
 use Rattle.spec_c_dumper.proofs.needs.Session.{machine_lawful}
 use Rattle.spec_c_dumper.proofs.needs.Alike.{AlikeMachine, BothOut, both_wrote, both_stuck, BothSess, BothAnswer, single_alike, every_alike}
@@ -94,42 +94,42 @@ module _ {St U : Type 0} (Q : Asks St) (N' : Naming St) (N : Naming U) (B : Btf)
     Near s t = Nearly Pair cnt s t
 
     module _ (mk : List ℕ → Piece) (s : Mine) (t : Plain) (h : Near s t) (v : St) (u : U) (r : Pair v u) where
-      fitting_alike : (len : ℕ) (x : Text) → BothOut Near (put_line mk s (fitting len v x)) (put_line mk t (fitting len u x))
+      fitting_alike : (len : ℕ) (x : Text) → BothOut Near Pair (put_line mk s (fitting len v x)) (put_line mk t (fitting len u x))
       unfolding fitting
       fitting_alike len (whole a) = both_wrote _ _ (record {
         rest = ap {B = Ls ℕ} (λ (l : Ls ℕ). record { marks = l.marks; olist = l.olist; emits = l.emits; fwds = l.fwds; room = l.room; known = len + length a; pieces = l.pieces ++ (mk a ∷ []) }) h.rest;
         names = r;
         sized = record { marks_n = h.sized.marks_n; emits_n = h.sized.emits_n };
       })
-      fitting_alike len (cut a c) = both_stuck c
+      fitting_alike len (cut a c) = both_stuck v u r c
 
-      room_alike : (len : ℕ) (x : Text) (b : Bool)
-          → BothOut Near (put_line mk s (elim b [ true ↦ fitting len v x | false ↦ cannot 17 ])) (put_line mk t (elim b [ true ↦ fitting len u x | false ↦ cannot 17 ]))
-      room_alike len x true = fitting_alike len x
-      room_alike len x false = both_stuck 17
+      room_alike : (v' : St) (u' : U) → Pair v' u' → (len : ℕ) (x : Text) (b : Bool)
+          → BothOut Near Pair (put_line mk s (elim b [ true ↦ fitting len v x | false ↦ cannot v' 17 ])) (put_line mk t (elim b [ true ↦ fitting len u x | false ↦ cannot u' 17 ]))
+      room_alike v' u' r' len x true = fitting_alike len x
+      room_alike v' u' r' len x false = both_stuck v' u' r' 17
 
     line_alike : (mk : List ℕ → Piece) (s : Mine) (t : Plain) → Near s t → (room len : ℕ) (s₁ : Said St) (s₂ : Said U) → RelSaid Pair s₁ s₂
-        → BothOut Near (put_line mk s (line_of room len s₁)) (put_line mk t (line_of room len s₂))
-    unfolding line_of
-    line_alike mk s t h room len _ _ (same v u x r) = room_alike mk s t h v u r len x (leb (len + length (bytes x)) (smaller room 1073741824))
+        → BothOut Near Pair (put_line mk s (line_of room len s₁)) (put_line mk t (line_of room len s₂))
+    unfolding line_of names_at_stop
+    line_alike mk s t h room len _ _ (same v u x k m r p) = room_alike mk s t h v u r _ _ (rel_at Pair p (smaller room 1073741824 - len) v u r) len x (leb (len + length (bytes x)) (smaller room 1073741824))
 
     -- the room and the length are the same on both
     line_by : (mk : List ℕ → Piece) (s : Mine) (t : Plain) → Near s t → (s₁ : Said St) (s₂ : Said U) → RelSaid Pair s₁ s₂
-        → BothOut Near (put_line mk s (line_of s.room s.known.text_len s₁)) (put_line mk t (line_of t.room t.known.text_len s₂))
+        → BothOut Near Pair (put_line mk s (line_of s.room s.known.text_len s₁)) (put_line mk t (line_of t.room t.known.text_len s₂))
     line_by mk s t h s₁ s₂ r =
-        subst (λ (l : Ls ℕ). BothOut Near (put_line mk s (line_of l.room l.known s₁)) (put_line mk t (line_of t.room t.known.text_len s₂))) (sym h.rest)
+        subst (λ (l : Ls ℕ). BothOut Near Pair (put_line mk s (line_of l.room l.known s₁)) (put_line mk t (line_of t.room t.known.text_len s₂))) (sym h.rest)
         (line_alike mk s t h t.room t.known.text_len s₁ s₂ r)
 
-    fwd_alike : (s : Mine) (t : Plain) → Near s t → (x : ℕ) → x < cnt → BothOut Near ((machine_once Q N' B).fwd_line s x) ((machine_by N B).fwd_line t x)
+    fwd_alike : (s : Mine) (t : Plain) → Near s t → (x : ℕ) → x < cnt → BothOut Near Pair ((machine_once Q N' B).fwd_line s x) ((machine_by N B).fwd_line t x)
     fwd_alike s t h x l =
         line_by other s t h (forward_once Q N' B x (B.type_by_id x) s.known.names) (forward N B x (B.type_by_id x) t.known.names) (same_forward x s.known.names t.known.names h.names)
 
     def_alike : (mk : List ℕ → Piece) (s : Mine) (t : Plain) → Near s t → (x : ℕ)
-        → BothOut Near (put_line mk s (line_of s.room s.known.text_len (definition_once Q N' B x (B.type_by_id x) s.known.names))) (put_line mk t (line_of t.room t.known.text_len (definition N B x (B.type_by_id x) t.known.names)))
+        → BothOut Near Pair (put_line mk s (line_of s.room s.known.text_len (definition_once Q N' B x (B.type_by_id x) s.known.names))) (put_line mk t (line_of t.room t.known.text_len (definition N B x (B.type_by_id x) t.known.names)))
     def_alike mk s t h x =
         line_by mk s t h (definition_once Q N' B x (B.type_by_id x) s.known.names) (definition N B x (B.type_by_id x) t.known.names) (same_definition x s.known.names t.known.names h.names)
 
-    pub machines_alike : AlikeMachine (machine_once Q N' B) (machine_by N B) cnt (Sized cnt) Near
+    pub machines_alike : AlikeMachine (machine_once Q N' B) (machine_by N B) cnt (Sized cnt) Near Pair
     machines_alike = record {
       a_store = record {
         a_good = λ s t h. h.sized;
@@ -167,12 +167,14 @@ module _ {St U : Type 0} (Q : Asks St) (N' : Naming St) (N : Naming U) (B : Btf)
       a_alias = fwd_alike;
       a_leaf = λ s t h x l. def_alike other s t h x;
       a_body = λ s t h x l. def_alike (defines x) s t h x;
+      a_held = λ s t h. h.names;
+      a_leaving = λ v u r s t h. record { rest = h.rest; names = sound.named.rel_leaving v u r s.known.names t.known.names h.names; sized = record { marks_n = h.sized.marks_n; emits_n = h.sized.emits_n } };
     }
 
     answer_alike : (S₁ : Sess Mine) (S : Sess Plain) → BothSess Near S₁ S → (r : Req) → BothAnswer Near (answer_once Q N' B S₁ r) (answer_to N B S r)
     unfolding answer_once answer_to
-    answer_alike S₁ S h (one room x) = single_alike (machine_once Q N' B) (machine_by N B) (table_of B) (Sized cnt) (machine_lawful N B cnt) wf.below Near machines_alike room S₁ S h x
-    answer_alike S₁ S h (all room) = every_alike (machine_once Q N' B) (machine_by N B) (table_of B) (Sized cnt) (machine_lawful N B cnt) wf.below Near machines_alike room S₁ S h
+    answer_alike S₁ S h (one room x) = single_alike (machine_once Q N' B) (machine_by N B) (table_of B) (Sized cnt) (machine_lawful N B cnt) wf.below Near Pair machines_alike room S₁ S h x
+    answer_alike S₁ S h (all room) = every_alike (machine_once Q N' B) (machine_by N B) (table_of B) (Sized cnt) (machine_lawful N B cnt) wf.below Near Pair machines_alike room S₁ S h
 
     dumped_alike : (rs : List Req) (ns : List (ℕ × ℕ)) (S₁ : Sess Mine) (S : Sess Plain) → BothSess Near S₁ S → dumped_once Q N' B ns rs S₁ ≡ dumped N B ns rs S
     unfolding dumped dumped_once
@@ -221,8 +223,9 @@ module _ {U M : Type 0} (K : Keep M) (N : Naming U) (B : Btf) (Good : M → Type
   pub remembering_sound : Sound (remembering_asks K B) (remembering_names N) N B wf ends Beside
   remembering_sound = record {
     named = record {
-      rel_type = λ space id name fit e v u r. (ap (λ (w : U). (N.type_version space id name w).version) r.0, (ap (λ (w : U). (N.type_version space id name w).names) r.0, r.1));
-      rel_value = λ id i name fit v u r. (ap (λ (w : U). (N.value_version id i name w).version) r.0, (ap (λ (w : U). (N.value_version id i name w).names) r.0, r.1));
+      rel_type = λ space id name fit e v u r. (ap (λ (w : U). (N.type_version space id name w).passes) r.0, ap (λ (w : U). (N.type_version space id name w).version) r.0, (ap (λ (w : U). (N.type_version space id name w).names) r.0, r.1));
+      rel_value = λ id i name fit v u r. (ap (λ (w : U). (N.value_version id i name w).passes) r.0, ap (λ (w : U). (N.value_version id i name w).version) r.0, (ap (λ (w : U). (N.value_version id i name w).names) r.0, r.1));
+      rel_leaving = λ v₁ u₁ r₁ v u r. (ap₂ N.leaving r₁.0 r.0, r.1);
     };
     bodies = λ id s name sz ms e l v u r. carried_fair v u r (body_packed B s sz ms) (body_once K B s id sz ms v.memory v.visits) (fair_body K B B.type_cnt Good Fits law fits wf.below Nothing (λ left id b m k l r g a. no_more (align_once K left B id m k)) id l s name sz ms e v.memory v.visits r.1);
     pads = λ offset x packed l v u r. carried_fair v u r (bit_padding B offset x packed) (padding_once K B offset x packed v.memory v.visits) (fair_padding K B B.type_cnt Good Fits law fits wf.below Nothing (λ left id b m k l r g a. no_more (align_once K left B id m k)) offset x packed l v.memory v.visits r.1);

@@ -153,7 +153,7 @@ module _ {St : Type 0} (c : ℕ) where
     passes n T s x weak k i l = order_is n T s x weak k i ∙ over (order K n T s x weak) (k + calls K n T s x weak) l
 
 -- ---- requests
-module _ {M : Type 0} (X : Machine M) (T : Table) where
+module _ {M H : Type 0} (X : Machine M H) (T : Table) where
   -- the calls that the request for x opens
   abbrev opens : ℕ → Sess M → ℕ → ℕ
   opens room S x = calls X.store 512 T (X.start room S.mach) x false
@@ -168,7 +168,7 @@ module _ {M : Type 0} (X : Machine M) (T : Table) where
     unfolding gate_within gate
     gate_fits i = ap (ordered_within X T S x) (within c X.store 512 T (X.start room S.mach) x false k i) ∙ told_plain S x (order X.store 512 T (X.start room S.mach) x false) (k + opens room S x)
 
-    gate_over : k ≤ c → c < k + opens room S x → gate_within X T c room S x k true true ≡ record { answer = shut X T S 22; made = c }
+    gate_over : k ≤ c → c < k + opens room S x → gate_within X T c room S x k true true ≡ record { answer = shut X T S (X.held S.mach) 22; made = c }
     unfolding gate_within ordered_within
     gate_over l i = ap (ordered_within X T S x) (passes c X.store 512 T (X.start room S.mach) x false k l i)
 

@@ -31,23 +31,23 @@ pub record TwinAnswers {U : Type 0} (n : ℕ) (a₁ a : Answer (Ls U)) : Type 0 
   pub same_number : a₁.number ≡ a.number
   pub twins : Twins n a₁.sess a.sess
 
-module _ {U : Type 0} (L : Lines U) (T : Table) where
-  abbrev X : Machine (Ls U)
+module _ {U H : Type 0} (L : Lines U H) (T : Table) where
+  abbrev X : Machine (Ls U) H
   X = list_machine L
 
   module _ (S₁ S : Sess (Ls U)) (h : Twins T.count S₁ S) where
-    shut_same : (e : ℕ) → TwinAnswers T.count (shut X T S₁ e) (shut X T S e)
+    shut_same : (m₁ m : H) (e : ℕ) → m₁ ≡ m → TwinAnswers T.count (shut X T S₁ m₁ e) (shut X T S m e)
     unfolding shut
-    shut_same e = record { same_number = refl; twins = record { same_open = refl; same_asked = h.same_asked; same_mach = h.same_mach; idle = λ u. absurd (true≢false (sym u)); marks_n = h.marks_n; emits_n = h.emits_n } }
+    shut_same m₁ m e q = record { same_number = refl; twins = record { same_open = refl; same_asked = h.same_asked; same_mach = λ i. bare (X.leaving (q i) (h.same_mach i)); idle = λ u. absurd (true≢false (sym u)); marks_n = h.marks_n; emits_n = h.emits_n } }
 
     emitted_same : (x : ℕ) (b : List ℕ) (d : Ls U) → length d.marks ≡ T.count → length d.emits ≡ T.count → ((y : ℕ) → get_or d.emits y new ≡ busy → ⊥)
-        → (p q : Out (Ls U)) → Alike (Fin L T b d) p q → TwinAnswers T.count (emitted X T S₁ x p) (emitted X T S x q)
+        → (p q : Out (Ls U) H) → Alike (Fin L T b d) p q → TwinAnswers T.count (emitted X T S₁ x p) (emitted X T S x q)
     unfolding emitted
     emitted_same x b d mn en nb _ _ (both_wrote e m) = record {
       same_number = refl;
       twins = record { same_open = refl; same_asked = ap {B = List ℕ} (λ (l : List ℕ). l ++ (x ∷ [])) h.same_asked; same_mach = e; idle = λ u y g. nb y (m.0.calm y g); marks_n = ap length m.0.ordering_same ∙ mn; emits_n = m.0.len ∙ en };
     }
-    emitted_same x b d mn en nb _ _ (both_stuck {e = e}) = shut_same e
+    emitted_same x b d mn en nb _ _ (both_stuck {h = m₁} {h' = m} {e = e} q) = shut_same m₁ m e q
 
     ordered_same : (x : ℕ) (s₀ : Ls U) → s₀.emits ≡ S.mach.emits → S.is_open ≡ true → (p q : Res (Ls U)) → Both T s₀ p q → TwinAnswers T.count (ordered X T S₁ x p) (ordered X T S x q)
     unfolding ordered
@@ -60,7 +60,7 @@ module _ {U : Type 0} (L : Lines U) (T : Table) where
 
         nb : (y : ℕ) → get_or d.emits y new ≡ busy → ⊥
         nb y g = h.idle o y (ap (λ (l : List Mark). get_or l y new) (sym (i.emits_same ∙ e)) ∙ g)
-    ordered_same x s₀ e o _ _ (both_no {e = c}) = shut_same c
+    ordered_same x s₀ e o _ _ (both_no {e = c}) = shut_same (X.held S₁.mach) (X.held S.mach) c (ap (λ (s : Ls U). X.held s) h.same_mach)
 
     begun : (room : ℕ) → Rel T (X.start room S.mach) (X.start room S₁.mach) (X.start room S.mach)
     begun room = record { same = ap {B = Ls U} (X.start room) h.same_mach; dup = dnil; newly = λ x t q g. inl g; old = λ x g. g; defs = λ x m. absurd (Memᴰ.not-nil m); size = h.marks_n; emits_same = refl }

@@ -17,18 +17,18 @@ use Rattle.spec_c_dumper.proofs.listed_twice.Ordering.{bare, Dup, dnil, dboth, d
 
 module _ {U : Type 0} where
   -- two outcomes: equal but for the order list, with Q of the second; or the same refusal
-  pub data Alike (Q : Ls U → Type 0) : Out (Ls U) → Out (Ls U) → Type 0 where
+  pub data Alike {H : Type 0} (Q : Ls U → Type 0) : Out (Ls U) H → Out (Ls U) H → Type 0 where
     both_wrote : {s t : Ls U} → bare s ≡ bare t → Q t → Alike Q (wrote s) (wrote t)
-    both_stuck : {e : ℕ} → Alike Q (stuck e) (stuck e)
+    both_stuck : {h h' : H} {e : ℕ} → h ≡ h' → Alike Q (stuck h e) (stuck h' e)
 
-  alike_bind : {Q Q' : Ls U → Type 0} {p q : Out (Ls U)} {k l : Ls U → Out (Ls U)} → Alike Q p q → ((s t : Ls U) → bare s ≡ bare t → Q t → Alike Q' (k s) (l t)) → Alike Q' (obind p k) (obind q l)
+  alike_bind : {H : Type 0} {Q Q' : Ls U → Type 0} {p q : Out (Ls U) H} {k l : Ls U → Out (Ls U) H} → Alike Q p q → ((s t : Ls U) → bare s ≡ bare t → Q t → Alike Q' (k s) (l t)) → Alike Q' (obind p k) (obind q l)
   unfolding obind
   alike_bind (both_wrote h m) f = f _ _ h m
-  alike_bind both_stuck f = both_stuck
+  alike_bind (both_stuck m) f = both_stuck m
 
-  alike_map : {Q Q' : Ls U → Type 0} {p q : Out (Ls U)} → ((t : Ls U) → Q t → Q' t) → Alike Q p q → Alike Q' p q
+  alike_map : {H : Type 0} {Q Q' : Ls U → Type 0} {p q : Out (Ls U) H} → ((t : Ls U) → Q t → Q' t) → Alike Q p q → Alike Q' p q
   alike_map f (both_wrote h m) = both_wrote h (f _ m)
-  alike_map f both_stuck = both_stuck
+  alike_map f (both_stuck m) = both_stuck m
 
   abbrev eget : Ls U → ℕ → Mark
   eget s x = get_or s.emits x new
@@ -93,21 +93,24 @@ module _ {U : Type 0} where
   mark_alike m x s t h = ap {B = Ls U} (λ (k : Ls U). record { marks = k.marks; olist = []; emits = set k.emits x m; fwds = k.fwds; room = k.room; known = k.known; pieces = k.pieces }) h
 
   -- a line
-  put_alike : (mk : List ℕ → Piece) (s t : Ls U) → bare s ≡ bare t → (l : Line U) → Alike (Stay t) (put_line mk s l) (put_line mk t l)
+  put_alike : {H : Type 0} (mk : List ℕ → Piece) (s t : Ls U) → bare s ≡ bare t → (l : Line U H) → Alike (Stay t) (put_line mk s l) (put_line mk t l)
   put_alike mk s t h (says u w) = both_wrote (ap {B = Ls U} (λ (k : Ls U). record { marks = k.marks; olist = []; emits = k.emits; fwds = k.fwds; room = k.room; known = u; pieces = k.pieces ++ (mk w ∷ []) }) h) (record { len = refl; kept = λ y e. e; calm = λ y e. e; ordering_same = refl })
-  put_alike mk s t h (cannot e) = both_stuck
+  put_alike mk s t h (cannot m e) = both_stuck refl
 
-  line_alike : (mk : List ℕ → Piece) (f : ℕ → U → Line U) (s t : Ls U) → bare s ≡ bare t → Alike (Stay t) (put_line mk s (f s.room s.known)) (put_line mk t (f t.room t.known))
+  line_alike : {H : Type 0} (mk : List ℕ → Piece) (f : ℕ → U → Line U H) (s t : Ls U) → bare s ≡ bare t → Alike (Stay t) (put_line mk s (f s.room s.known)) (put_line mk t (f t.room t.known))
   line_alike mk f s t h = subst (λ (k : Ls U). Alike (Stay t) (put_line mk s (f k.room k.known)) (put_line mk t (f t.room t.known))) (sym h) (put_alike mk s t h (f t.room t.known))
 
   has_same : (s t : Ls U) → bare s ≡ bare t → (x : ℕ) → get_or s.fwds x false ≡ get_or t.fwds x false
   has_same s t h x = ap (λ (k : Ls U). get_or k.fwds x false) h
 
-module _ {U : Type 0} (L : Lines U) (T : Table) where
-  abbrev X : Machine (Ls U)
+module _ {U H : Type 0} (L : Lines U H) (T : Table) where
+  abbrev X : Machine (Ls U) H
   X = list_machine L
 
-  once_alike : (w : Ls U → ℕ → Out (Ls U)) (x : ℕ) → ((s t : Ls U) → bare s ≡ bare t → Alike (Stay t) (w s x) (w t x)) → (s t : Ls U) → bare s ≡ bare t → (b : Bool) → Alike (Stay t) (once X T w x b s) (once X T w x b t)
+  held_same : (s t : Ls U) → bare s ≡ bare t → X.held s ≡ X.held t
+  held_same s t h = ap (λ (k : Ls U). X.held k) h
+
+  once_alike : (w : Ls U → ℕ → Out (Ls U) H) (x : ℕ) → ((s t : Ls U) → bare s ≡ bare t → Alike (Stay t) (w s x) (w t x)) → (s t : Ls U) → bare s ≡ bare t → (b : Bool) → Alike (Stay t) (once X T w x b s) (once X T w x b t)
   unfolding once
   once_alike w x f s t h true = both_wrote h (stay_refl t)
   once_alike w x f s t h false = alike_bind (f s t h) (λ s' t' h' m. both_wrote
@@ -122,7 +125,7 @@ module _ {U : Type 0} (L : Lines U) (T : Table) where
   alias_alike x s t h = subst (λ (k : Bool). Alike (Stay t) (once X T X.alias_line x k s) (once X T X.alias_line x (X.has_fwd t x) t)) (sym (has_same s t h x))
       (once_alike X.alias_line x (λ s' t' h'. line_alike other (λ r u. L.alias' r u x) s' t' h') s t h (X.has_fwd t x))
 
-  module _ (rec : Ls U → ℕ → ℕ → Out (Ls U)) (goes : (s t : Ls U) (x cont : ℕ) → bare s ≡ bare t → Alike (Stay t) (rec s x cont) (rec t x cont)) where
+  module _ (rec : Ls U → ℕ → ℕ → Out (Ls U) H) (goes : (s t : Ls U) (x cont : ℕ) → bare s ≡ bare t → Alike (Stay t) (rec s x cont) (rec t x cont)) where
     eeach_alike : (cont : ℕ) (ys : List ℕ) (s t : Ls U) → bare s ≡ bare t → Alike (Stay t) (eeach (λ s' y. rec s' y cont) ys s) (eeach (λ s' y. rec s' y cont) ys t)
     unfolding eeach
     eeach_alike cont [] s t h = both_wrote h (stay_refl t)
@@ -136,7 +139,7 @@ module _ {U : Type 0} (L : Lines U) (T : Table) where
           go : (c nm : Bool) → Alike (Stay t) (mention X T c nm x s) (mention X T c nm x t)
           go true nm = both_wrote h (stay_refl t)
           go false true = fwd_alike x s t h false false refl
-          go false false = both_stuck
+          go false false = both_stuck (held_same s t h)
 
       again_alike : (nd : Node) → Alike (Stay t) (again X T s x cont nd) (again X T t x cont nd)
       unfolding again
@@ -199,7 +202,7 @@ module _ {U : Type 0} (L : Lines U) (T : Table) where
 
       allowed_alike : (b : Bool) → eget t x ≡ new → Alike (Stay t) (allowed X T rec s x cont b) (allowed X T rec t x cont b)
       unfolding allowed
-      allowed_alike true n = both_stuck
+      allowed_alike true n = both_stuck (held_same s t h)
       allowed_alike false n = begin_alike (is_zero cont) (T.node x) n
 
       look_alike : (m : Mark) → eget t x ≡ m → Alike (Stay t) (look X T rec s x cont m) (look X T rec t x cont m)
@@ -211,7 +214,7 @@ module _ {U : Type 0} (L : Lines U) (T : Table) where
     module _ (s t : Ls U) (h : bare s ≡ bare t) (x : ℕ) (d : is_def (T.node x) ≡ true) where
       allowed_done : (b : Bool) → eget t x ≡ new → Alike (TopDone x t) (allowed X T rec s x 0 b) (allowed X T rec t x 0 b)
       unfolding allowed
-      allowed_done true n = both_stuck
+      allowed_done true n = both_stuck (held_same s t h)
       allowed_done false n = begin_done s t h x 0 (T.node x) d n
 
       look_done : (m : Mark) → eget t x ≡ m → (eget t x ≡ busy → ⊥) → Alike (TopDone x t) (look X T rec s x 0 m) (look X T rec t x 0 m)
@@ -225,14 +228,14 @@ module _ {U : Type 0} (L : Lines U) (T : Table) where
 
   emit_alike : (n : ℕ) (s t : Ls U) (x cont : ℕ) → bare s ≡ bare t → Alike (Stay t) (emit X T n s x cont) (emit X T n t x cont)
   unfolding emit
-  emit_alike zero s t x cont h = both_stuck
+  emit_alike zero s t x cont h = both_stuck (held_same s t h)
   emit_alike (suc n) s t x cont h =
       subst (λ (m : Mark). Alike (Stay t) (look X T (λ s' y c. emit X T n s' y c) s x cont m) (look X T (λ s' y c. emit X T n s' y c) t x cont (eget t x))) (at_mark s t h x)
       (look_alike (λ s' y c. emit X T n s' y c) (λ s' t' y c h'. emit_alike n s' t' y c h') s t h x cont (eget t x) refl)
 
   emit_done : (n : ℕ) (s t : Ls U) (x : ℕ) → bare s ≡ bare t → is_def (T.node x) ≡ true → (eget t x ≡ busy → ⊥) → Alike (TopDone x t) (emit X T n s x 0) (emit X T n t x 0)
   unfolding emit
-  emit_done zero s t x h d nb = both_stuck
+  emit_done zero s t x h d nb = both_stuck (held_same s t h)
   emit_done (suc n) s t x h d nb =
       subst (λ (m : Mark). Alike (TopDone x t) (look X T (λ s' y c. emit X T n s' y c) s x 0 m) (look X T (λ s' y c. emit X T n s' y c) t x 0 (eget t x))) (at_mark s t h x)
       (look_done (λ s' y c. emit X T n s' y c) (λ s' t' y c h'. emit_alike n s' t' y c h') s t h x d (eget t x) refl nb)
@@ -244,37 +247,37 @@ module _ {U : Type 0} (L : Lines U) (T : Table) where
 
   -- the list
 
-  eeach_snoc : (f : Ls U → ℕ → Out (Ls U)) (a : List ℕ) (x : ℕ) (s : Ls U) → eeach f (a ++ (x ∷ [])) s ≡ obind (eeach f a s) (λ s'. f s' x)
+  eeach_snoc : (f : Ls U → ℕ → Out (Ls U) H) (a : List ℕ) (x : ℕ) (s : Ls U) → eeach f (a ++ (x ∷ [])) s ≡ obind (eeach f a s) (λ s'. f s' x)
   unfolding eeach obind
   eeach_snoc f [] x s = go (f s x)
     where
-      go : (r : Out (Ls U)) → obind r (eeach f []) ≡ r
+      go : (r : Out (Ls U) H) → obind r (eeach f []) ≡ r
       go (wrote s') = refl
-      go (stuck e) = refl
+      go (stuck h e) = refl
   eeach_snoc f (y ∷ a) x s = go (λ s'. eeach_snoc f a x s') (f s y)
     where
-      go : ((s' : Ls U) → eeach f (a ++ (x ∷ [])) s' ≡ obind (eeach f a s') (λ s''. f s'' x)) → (r : Out (Ls U)) → obind r (eeach f (a ++ (x ∷ []))) ≡ obind (obind r (eeach f a)) (λ s''. f s'' x)
+      go : ((s' : Ls U) → eeach f (a ++ (x ∷ [])) s' ≡ obind (eeach f a s') (λ s''. f s'' x)) → (r : Out (Ls U) H) → obind r (eeach f (a ++ (x ∷ []))) ≡ obind (obind r (eeach f a)) (λ s''. f s'' x)
       go h (wrote s') = h s'
-      go h (stuck e) = refl
+      go h (stuck m e) = refl
 
   -- the ids of b are emitted
   abbrev pub Fin : List ℕ → Ls U → Ls U → Type 0
   Fin b t t' = Stay t t' × ((x : ℕ) → Memᴰ x b → x < length t.emits → eget t' x ≡ done)
 
-  abbrev top : Ls U → ℕ → Out (Ls U)
+  abbrev top : Ls U → ℕ → Out (Ls U) H
   top s y = emit X T 512 s y 0
 
-  skip : (b : List ℕ) (t : Ls U) (x : ℕ) → Memᴰ x b → x < length t.emits → (p q : Out (Ls U)) → Alike (Fin b t) p q → Alike (Fin b t) (obind p (λ s'. top s' x)) q
+  skip : (b : List ℕ) (t : Ls U) (x : ℕ) → Memᴰ x b → x < length t.emits → (p q : Out (Ls U) H) → Alike (Fin b t) p q → Alike (Fin b t) (obind p (λ s'. top s' x)) q
   unfolding obind
-  skip b t x m l _ _ (both_wrote {s = s'} {t = t'} h q) = subst (λ (k : Out (Ls U)). Alike (Fin b t) k (wrote t')) (sym (emit_no 511 s' x (sym (at_mark s' t' h x) ∙ q.1 x m l))) (both_wrote h q)
-  skip b t x m l _ _ both_stuck = both_stuck
+  skip b t x m l _ _ (both_wrote {s = s'} {t = t'} h q) = subst (λ (k : Out (Ls U) H). Alike (Fin b t) k (wrote t')) (sym (emit_no 511 s' x (sym (at_mark s' t' h x) ∙ q.1 x m l))) (both_wrote h q)
+  skip b t x m l _ _ (both_stuck e) = both_stuck e
 
   pub dup_emit : (n : ℕ) {a b : List ℕ} → Dup n a b → (s t : Ls U) → bare s ≡ bare t → length t.emits ≡ n → ((y : ℕ) → eget t y ≡ busy → ⊥) → ((x : ℕ) → Memᴰ x b → is_def (T.node x) ≡ true) → Alike (Fin b t) (eeach top a s) (eeach top b t)
   unfolding eeach
   dup_emit n dnil s t h z nb f = both_wrote h (stay_refl t, λ x m. absurd (Memᴰ.not-nil m))
   dup_emit n (dboth {a = a} {b = b} x i) s t h z nb f =
-      subst (λ (k : Out (Ls U)). Alike (Fin (b ++ (x ∷ [])) t) k (eeach top (b ++ (x ∷ [])) t)) (sym (eeach_snoc top a x s))
-      (subst (λ (k : Out (Ls U)). Alike (Fin (b ++ (x ∷ [])) t) (obind (eeach top a s) (λ s'. top s' x)) k) (sym (eeach_snoc top b x t))
+      subst (λ (k : Out (Ls U) H). Alike (Fin (b ++ (x ∷ [])) t) k (eeach top (b ++ (x ∷ [])) t)) (sym (eeach_snoc top a x s))
+      (subst (λ (k : Out (Ls U) H). Alike (Fin (b ++ (x ∷ [])) t) (obind (eeach top a s) (λ s'. top s' x)) k) (sym (eeach_snoc top b x t))
       (alike_bind (dup_emit n i s t h z nb (λ y m. f y (Memᴰ.append_left (x ∷ []) m))) after))
     where
       here_too : (t' t'' : Ls U) → Fin b t t' → TopDone x t' t'' → (y : ℕ) → y < length t.emits → Memᴰ y b ⊎ Memᴰ y (x ∷ []) → eget t'' y ≡ done
@@ -288,5 +291,5 @@ module _ {U : Type 0} (L : Lines U) (T : Table) where
       after s' t' h' q = alike_map (λ t'' r. (stay_trans q.0 r.0, λ y m l. here_too t' t'' q r y l (Memᴰ.append_cases b m)))
           (emit_done 512 s' t' x h' (f x (Memᴰ.append_right b (Memᴰ.head refl))) (λ e. nb x (q.0.calm x e)))
   dup_emit n (dmore {a = a} {b = b} x i m l) s t h z nb f =
-      subst (λ (k : Out (Ls U)). Alike (Fin b t) k (eeach top b t)) (sym (eeach_snoc top a x s))
+      subst (λ (k : Out (Ls U) H). Alike (Fin b t) k (eeach top b t)) (sym (eeach_snoc top a x s))
       (skip b t x m (subst (λ (k : ℕ). x < k) (sym z) l) (eeach top a s) (eeach top b t) (dup_emit n i s t h z nb f))

@@ -300,29 +300,29 @@ module _ {U : Type 0} (T : Table) where
     order_settles (suc n) s x w l = visit_settles n (λ s' y k. order K n T s' y k) (λ s' y k. order_grows n s' y k) (λ s' y. order_settles n s' y) s x w l (K.get s x) refl
 
 -- ---- emission leaves the marks
-module _ {U : Type 0} (L : Lines U) (T : Table) (ms : List Mark) where
-  abbrev X : Machine (Ls U)
+module _ {U H : Type 0} (L : Lines U H) (T : Table) (ms : List Mark) where
+  abbrev X : Machine (Ls U) H
   X = list_machine L
 
-  data Keeps : Out (Ls U) → Type 0 where
+  data Keeps : Out (Ls U) H → Type 0 where
     keeps : (s : Ls U) → s.marks ≡ ms → Keeps (wrote s)
-    stays : (e : ℕ) → Keeps (stuck e)
+    stays : {h : H} (e : ℕ) → Keeps (stuck h e)
 
-  kept_bind : (r : Out (Ls U)) (k : Ls U → Out (Ls U)) → Keeps r → ((s : Ls U) → s.marks ≡ ms → Keeps (k s)) → Keeps (obind r k)
+  kept_bind : (r : Out (Ls U) H) (k : Ls U → Out (Ls U) H) → Keeps r → ((s : Ls U) → s.marks ≡ ms → Keeps (k s)) → Keeps (obind r k)
   unfolding obind
   kept_bind _ k (keeps s e) f = f s e
   kept_bind _ k (stays c) f = stays c
 
-  kept_each : (f : Ls U → ℕ → Out (Ls U)) → ((s : Ls U) (x : ℕ) → s.marks ≡ ms → Keeps (f s x)) → (xs : List ℕ) (s : Ls U) → s.marks ≡ ms → Keeps (eeach f xs s)
+  kept_each : (f : Ls U → ℕ → Out (Ls U) H) → ((s : Ls U) (x : ℕ) → s.marks ≡ ms → Keeps (f s x)) → (xs : List ℕ) (s : Ls U) → s.marks ≡ ms → Keeps (eeach f xs s)
   unfolding eeach
   kept_each f h [] s e = keeps s e
   kept_each f h (y ∷ ys) s e = kept_bind (f s y) (eeach f ys) (h s y e) (λ s' e'. kept_each f h ys s' e')
 
-  kept_line : (mk : List ℕ → Piece) (s : Ls U) → s.marks ≡ ms → (q : Line U) → Keeps (put_line mk s q)
+  kept_line : (mk : List ℕ → Piece) (s : Ls U) → s.marks ≡ ms → (q : Line U H) → Keeps (put_line mk s q)
   kept_line mk s e (says u t) = keeps _ e
-  kept_line mk s e (cannot c) = stays c
+  kept_line mk s e (cannot h c) = stays c
 
-  kept_once : (w : Ls U → ℕ → Out (Ls U)) (x : ℕ) (b : Bool) (s : Ls U) → s.marks ≡ ms → Keeps (w s x) → Keeps (once X T w x b s)
+  kept_once : (w : Ls U → ℕ → Out (Ls U) H) (x : ℕ) (b : Bool) (s : Ls U) → s.marks ≡ ms → Keeps (w s x) → Keeps (once X T w x b s)
   unfolding once
   kept_once w x true s e h = keeps s e
   kept_once w x false s e h = kept_bind (w s x) (λ s'. wrote (X.forwarded x s')) h (λ s' e'. keeps _ e')
@@ -360,7 +360,7 @@ module _ {U : Type 0} (L : Lines U) (T : Table) (ms : List Mark) where
   kept_leaf true x s e = kept_bind (X.leaf_line s x) (λ s'. wrote (X.emark done x s')) (kept_line other s e (L.leaf' s.room s.known x)) (λ s' e'. keeps _ e')
   kept_leaf false x s e = keeps _ e
 
-  module _ (rec : Ls U → ℕ → ℕ → Out (Ls U)) (h : (s : Ls U) (x cont : ℕ) → s.marks ≡ ms → Keeps (rec s x cont)) (s : Ls U) (e : s.marks ≡ ms) (x cont : ℕ) where
+  module _ (rec : Ls U → ℕ → ℕ → Out (Ls U) H) (h : (s : Ls U) (x cont : ℕ) → s.marks ≡ ms → Keeps (rec s x cont)) (s : Ls U) (e : s.marks ≡ ms) (x cont : ℕ) where
     kept_within : (a nm : Bool) (cs : List ℕ) → Keeps (within X T rec s x cont a nm cs)
     unfolding within
     kept_within true nm cs = kept_each (λ s' y. rec s' y (pick nm x cont)) (λ s' y e'. h s' y (pick nm x cont) e') cs (X.emark busy x s) e
@@ -396,20 +396,20 @@ module _ {U : Type 0} (L : Lines U) (T : Table) (ms : List Mark) where
   kept_emit (suc n) s x cont e = kept_look (λ s' y c. emit X T n s' y c) (λ s' y c e'. kept_emit n s' y c e') s e x cont (X.eget s x)
 
 -- ---- a session: what was asked for and accepted is settled
-module _ {U : Type 0} (L : Lines U) (T : Table) (wf : WF T) where
+module _ {U H : Type 0} (L : Lines U H) (T : Table) (wf : WF T) where
   record Inv (S : Sess (Ls U)) : Type 0 where
     wide : length S.mach.marks ≡ T.count
     below : (x : ℕ) → Memᴰ x S.asked → x < T.count
     settled : (x : ℕ) → Memᴰ x S.asked → Settled T S.mach.marks 512 x
 
-  abbrev Y : Machine (Ls U)
+  abbrev Y : Machine (Ls U) H
   Y = list_machine L
 
-  shut_inv : (S : Sess (Ls U)) (e : ℕ) → Inv S → Inv (shut Y T S e).sess
+  shut_inv : (S : Sess (Ls U)) (h : H) (e : ℕ) → Inv S → Inv (shut Y T S h e).sess
   unfolding shut
-  shut_inv S e i = record { wide = i.wide; below = i.below; settled = i.settled }
+  shut_inv S h e i = record { wide = i.wide; below = i.below; settled = i.settled }
 
-  emitted_inv : (S : Sess (Ls U)) (x : ℕ) → Inv S → x < T.count → (m : List Mark) → Grown S.mach.marks m → Settled T m 512 x → (r : Out (Ls U)) → Keeps L T m r → Inv (emitted Y T S x r).sess
+  emitted_inv : (S : Sess (Ls U)) (x : ℕ) → Inv S → x < T.count → (m : List Mark) → Grown S.mach.marks m → Settled T m 512 x → (r : Out (Ls U) H) → Keeps L T m r → Inv (emitted Y T S x r).sess
   unfolding emitted
   emitted_inv S x i l m g h _ (keeps s e) = record {
     wide = ap length e ∙ g.long ∙ i.wide;
@@ -424,14 +424,14 @@ module _ {U : Type 0} (L : Lines U) (T : Table) (wf : WF T) where
       stands : (y : ℕ) → Memᴰ y S.asked ⊎ Memᴰ y (x ∷ []) → Settled T m 512 y
       stands y (inl k) = settled_grows T S.mach.marks m g 512 y (i.settled y k)
       stands y (inr k) = subst (λ (z : ℕ). Settled T m 512 z) (sym (Memᴰ.eq_of_singleton k)) h
-  emitted_inv S x i l m g h _ (stays e) = shut_inv S e i
+  emitted_inv S x i l m g h _ (stays e) = shut_inv S _ e i
 
   ordered_inv : (S : Sess (Ls U)) (x : ℕ) → Inv S → x < T.count → (r : Res (Ls U)) → Left T (λ m. Grown S.mach.marks m × Settled T m 512 x) r → Inv (ordered Y T S x r).sess
   unfolding ordered
   ordered_inv S x i l _ (leaves s b h) =
       emitted_inv S x i l s.marks h.0 h.1 (eeach (λ m y. emit Y T 512 m y 0) s.olist s)
       (kept_each L T s.marks (λ m y. emit Y T 512 m y 0) (λ m y e. kept_emit L T s.marks 512 m y 0 e) s.olist s refl)
-  ordered_inv S x i l _ (halts e) = shut_inv S e i
+  ordered_inv S x i l _ (halts e) = shut_inv S _ e i
 
   gate_inv : (room : ℕ) (S : Sess (Ls U)) (x : ℕ) → Inv S → (o b : Bool) → ltb x T.count ≡ b → Inv (gate Y T room S x o b).sess
   unfolding gate

@@ -14,7 +14,7 @@ use Rattle.spec_c_dumper.specs.rules.Machine.{Out, Machine, MLawful, OrderKeeps,
 use Rattle.spec_c_dumper.specs.needs.Needs.{kids}
 use Rattle.spec_c_dumper.proofs.needs.Ways.{clash, clash_new, clash_busy, tally, tally_mono, tally_room}
 use Rattle.spec_c_dumper.proofs.needs.Sound.{Grew, Room, grew_refl, grew_trans, grew_busy, grew_busy', grew_finish, grew_around, mem_finish_inv, room_finish}
-use Rattle.spec_c_dumper.proofs.needs.Emission.{AlikeSteps, eeach_alike, emit_alike}
+use Rattle.spec_c_dumper.proofs.needs.Emission.{Until, both_go, both_end, left_ends, right_ends, AlikeSteps, StepsUntil, eeach_until, emit_until, Never, steps_until}
 pub use Rattle.spec_c_dumper.proofs.needs.Emission.{BothOut, both_wrote, both_stuck}
 
 -- what two orderings come to
@@ -192,7 +192,7 @@ module _ {S₁ S : Type 0} (K₁ : Store S₁) (K : Store S) (T : Table) (Good :
       (visit_alike (λ s' y w. order K₁ n T s' y w) (λ t' y w. order K n T t' y w) (λ s' t' y w h' l'. order_alike n s' t' y w h' l') s t x weak h l (K.get t x) refl)
 
 -- Steps of two machines that go alike.
-pub record AlikeMachine {M₁ M : Type 0} (X₁ : Machine M₁) (X : Machine M) (n : ℕ) (Good : M → Type 0) (Q : M₁ → M → Type 0) : Type 0 where
+pub record AlikeMachine {M₁ H₁ M H : Type 0} (X₁ : Machine M₁ H₁) (X : Machine M H) (n : ℕ) (Good : M → Type 0) (Q : M₁ → M → Type 0) (RH : H₁ → H → Type 0) : Type 0 where
   pub a_store : AlikeStore X₁.store X.store n Good Q
   pub a_list : (s : M₁) (t : M) → Q s t → X₁.store.list s ≡ X.store.list t
   pub a_start : (room : ℕ) (s : M₁) (t : M) → Q s t → Q (X₁.start room s) (X.start room t)
@@ -200,10 +200,12 @@ pub record AlikeMachine {M₁ M : Type 0} (X₁ : Machine M₁) (X : Machine M) 
   pub a_emark : (m : Mark) (x : ℕ) (s : M₁) (t : M) → Q s t → x < n → Q (X₁.emark m x s) (X.emark m x t)
   pub a_has : (s : M₁) (t : M) → Q s t → (x : ℕ) → x < n → X₁.has_fwd s x ≡ X.has_fwd t x
   pub a_forwarded : (x : ℕ) (s : M₁) (t : M) → Q s t → x < n → Q (X₁.forwarded x s) (X.forwarded x t)
-  pub a_fwd : (s : M₁) (t : M) → Q s t → (x : ℕ) → x < n → BothOut Q (X₁.fwd_line s x) (X.fwd_line t x)
-  pub a_alias : (s : M₁) (t : M) → Q s t → (x : ℕ) → x < n → BothOut Q (X₁.alias_line s x) (X.alias_line t x)
-  pub a_leaf : (s : M₁) (t : M) → Q s t → (x : ℕ) → x < n → BothOut Q (X₁.leaf_line s x) (X.leaf_line t x)
-  pub a_body : (s : M₁) (t : M) → Q s t → (x : ℕ) → x < n → BothOut Q (X₁.body s x) (X.body t x)
+  pub a_fwd : (s : M₁) (t : M) → Q s t → (x : ℕ) → x < n → BothOut Q RH (X₁.fwd_line s x) (X.fwd_line t x)
+  pub a_alias : (s : M₁) (t : M) → Q s t → (x : ℕ) → x < n → BothOut Q RH (X₁.alias_line s x) (X.alias_line t x)
+  pub a_leaf : (s : M₁) (t : M) → Q s t → (x : ℕ) → x < n → BothOut Q RH (X₁.leaf_line s x) (X.leaf_line t x)
+  pub a_body : (s : M₁) (t : M) → Q s t → (x : ℕ) → x < n → BothOut Q RH (X₁.body s x) (X.body t x)
+  pub a_held : (s : M₁) (t : M) → Q s t → RH (X₁.held s) (X.held t)
+  pub a_leaving : (h₁ : H₁) (h : H) → RH h₁ h → (s : M₁) (t : M) → Q s t → Q (X₁.leaving h₁ s) (X.leaving h t)
 
 -- ---- sessions
 
@@ -217,9 +219,132 @@ pub record BothAnswer {M₁ M : Type 0} (Q : M₁ → M → Type 0) (a₁ : Answ
   pub same_number : a₁.number ≡ a.number
   pub sessions : BothSess Q a₁.sess a.sess
 
-module _ {M₁ M : Type 0} (X₁ : Machine M₁) (X : Machine M) (T : Table) (Good : M → Type 0) (ml : MLawful X Good T.count) (below : (x y : ℕ) → Memᴰ y (kids (T.node x)) → y < T.count) (Q : M₁ → M → Type 0)
-    (al : AlikeMachine X₁ X T.count Good Q) where
-  steps : AlikeSteps X₁ X T.count Q
+-- Steps that go alike until a refusal ends it: Q while the sessions are open, P of closed ones too.
+pub record MachinesUntil {M₁ H₁ M H : Type 0} (X₁ : Machine M₁ H₁) (X : Machine M H) (n : ℕ) (Good : M → Type 0) (P Q : M₁ → M → Type 0) (RH : H₁ → H → Type 0) (E₁ E₂ : ℕ → Type 0) : Type 0 where
+  pub m_store : AlikeStore X₁.store X.store n Good Q
+  pub m_list : (s : M₁) (t : M) → Q s t → X₁.store.list s ≡ X.store.list t
+  pub m_start : (room : ℕ) (s : M₁) (t : M) → Q s t → Q (X₁.start room s) (X.start room t)
+  pub m_steps : StepsUntil X₁ X n Q RH E₁ E₂
+  pub m_shape : (s : M₁) (t : M) → Q s t → P s t
+  pub m_leaving : (h₁ : H₁) (h : H) → RH h₁ h → (s : M₁) (t : M) → Q s t → P (X₁.leaving h₁ s) (X.leaving h t)
+  pub m_zero₁ : E₁ 0 → ⊥
+  pub m_zero₂ : E₂ 0 → ⊥
+
+pub record SessionsUntil {M₁ M : Type 0} (P Q : M₁ → M → Type 0) (S₁ : Sess M₁) (S : Sess M) : Type 0 where
+  pub same_open : S₁.is_open ≡ S.is_open
+  pub same_asked : S₁.asked ≡ S.asked
+  pub shape : P S₁.mach S.mach
+  pub live : S.is_open ≡ true → Q S₁.mach S.mach
+
+pub data AnswersUntil {M₁ M : Type 0} (P Q : M₁ → M → Type 0) (E₁ E₂ : ℕ → Type 0) (a₁ : Answer M₁) (a : Answer M) : Type 0 where
+  answered : a₁.number ≡ a.number → SessionsUntil P Q a₁.sess a.sess → AnswersUntil P Q E₁ E₂ a₁ a
+  left_answer : E₁ a₁.number → AnswersUntil P Q E₁ E₂ a₁ a
+  right_answer : E₂ a.number → AnswersUntil P Q E₁ E₂ a₁ a
+
+module _ {M₁ H₁ M H : Type 0} (X₁ : Machine M₁ H₁) (X : Machine M H) (T : Table) (Good : M → Type 0) (ml : MLawful X Good T.count) (below : (x y : ℕ) → Memᴰ y (kids (T.node x)) → y < T.count)
+    (P Q : M₁ → M → Type 0) (RH : H₁ → H → Type 0) (E₁ E₂ : ℕ → Type 0) (al : MachinesUntil X₁ X T.count Good P Q RH E₁ E₂) where
+  abbrev Lives : M₁ → M → Type 0
+  Lives s t = Live X₁.store X.store T Good ml.law (OrderKeeps X Good) ml.framed below Q al.m_store s t
+
+  abbrev Goes : M → M₁ → M → Bool → Type 0
+  Goes t₀ s t b = Went X₁.store X.store T Good ml.law (OrderKeeps X Good) ml.framed below Q al.m_store t₀ s t b
+
+  start_live : (room : ℕ) (s : M₁) (t : M) → Q s t → Lives (X₁.start room s) (X.start room t)
+  start_live room s t q = record {
+    related = al.m_start room s t q;
+    room = subst (λ (k : List ℕ). length k ≤ tally (X.store.get (X.start room t)) T.count) (sym e) (omega arith);
+    ids = λ y m. absurd (Memᴰ.not-nil (subst (Memᴰ y) e m));
+  }
+    where
+      e : X.store.list (X.start room t) ≡ []
+      e = ml.start_list room t (al.m_store.a_good s t q)
+
+  module _ (S₁ : Sess M₁) (S : Sess M) (h : SessionsUntil P Q S₁ S) where
+    shut_until : (m₁ : H₁) (m : H) → P (X₁.leaving m₁ S₁.mach) (X.leaving m S.mach) → (e : ℕ) → AnswersUntil P Q E₁ E₂ (shut X₁ T S₁ m₁ e) (shut X T S m e)
+    unfolding shut
+    shut_until m₁ m r e = answered refl (record { same_open = refl; same_asked = h.same_asked; shape = r; live = λ o. absurd (true≢false (sym o)) })
+
+    emitted_until : (x : ℕ) → S.is_open ≡ true → {r₁ : Out M₁ H₁} {r : Out M H} → Until Q RH E₁ E₂ r₁ r → AnswersUntil P Q E₁ E₂ (emitted X₁ T S₁ x r₁) (emitted X T S x r)
+    unfolding emitted shut
+    emitted_until x o (both_go s t q) = answered refl (record { same_open = refl; same_asked = ap (λ (k : List ℕ). k ++ (x ∷ [])) h.same_asked; shape = al.m_shape s t q; live = λ o'. q })
+    emitted_until x o (both_end m₁ m r e) = shut_until m₁ m (al.m_leaving m₁ m r S₁.mach S.mach (h.live o)) e
+    emitted_until x o (left_ends m₁ e r w) = left_answer w
+    emitted_until x o (right_ends m e r₁ w) = right_answer w
+
+    ordered_until : (x : ℕ) → S.is_open ≡ true → (t₀ : M) {r₁ : Res M₁} {r : Res M} → Both (Goes t₀) r₁ r → AnswersUntil P Q E₁ E₂ (ordered X₁ T S₁ x r₁) (ordered X T S x r)
+    unfolding ordered
+    ordered_until x o t₀ (both s t b w) =
+        emitted_until x o (subst (λ (k : List ℕ). Until Q RH E₁ E₂ (eeach (λ m y. emit X₁ T 512 m y 0) k s) (eeach (λ m y. emit X T 512 m y 0) (X.store.list t) t)) (sym (al.m_list s t w.live.related))
+        (eeach_until X₁ X T below Q RH E₁ E₂ al.m_steps (λ m y. emit X₁ T 512 m y 0) (λ m y. emit X T 512 m y 0) (λ s' t' y q l. emit_until X₁ X T below Q RH E₁ E₂ al.m_steps 512 s' t' y 0 q l) (X.store.list t) w.live.ids s t w.live.related))
+    ordered_until x o t₀ (neither e) =
+        shut_until (X₁.held S₁.mach) (X.held S.mach) (al.m_leaving (X₁.held S₁.mach) (X.held S.mach) (al.m_steps.u_held S₁.mach S.mach (h.live o)) S₁.mach S.mach (h.live o)) e
+
+    gate_until : (room x : ℕ) (o b : Bool) → S.is_open ≡ o → ltb x T.count ≡ b → AnswersUntil P Q E₁ E₂ (gate X₁ T room S₁ x o b) (gate X T room S x o b)
+    unfolding gate
+    gate_until room x false b o e = answered refl h
+    gate_until room x true false o e = answered refl h
+    gate_until room x true true o e =
+        ordered_until x o (X.start room S.mach) (order_alike X₁.store X.store T Good ml.law (OrderKeeps X Good) ml.framed below Q al.m_store 512 (X₁.start room S₁.mach) (X.start room S.mach) x false
+        (start_live room S₁.mach S.mach (h.live o)) (ltb→lt x T.count (subst True (sym e) tt)))
+
+  pub single_until : (room : ℕ) (S₁ : Sess M₁) (S : Sess M) → SessionsUntil P Q S₁ S → (x : ℕ) → AnswersUntil P Q E₁ E₂ (single X₁ T room S₁ x) (single X T room S x)
+  unfolding single
+  single_until room S₁ S h x =
+      subst (λ (o : Bool). AnswersUntil P Q E₁ E₂ (gate X₁ T room S₁ x o (ltb x T.count)) (gate X T room S x S.is_open (ltb x T.count))) (sym h.same_open)
+      (gate_until S₁ S h room x S.is_open (ltb x T.count) refl refl)
+
+  stays₁ : (k : Sess M₁ → Answer M₁) (a : Answer M₁) → (a.number ≡ 0 → ⊥) → onward X₁ T k a ≡ a
+  unfolding onward
+  stays₁ k a h = go a.number refl
+    where
+      go : (n : ℕ) → a.number ≡ n → (elim n as (λ m. Answer M₁) [ zero ↦ k a.sess | suc m ↦ a ]) ≡ a
+      go zero e = absurd (h e)
+      go (suc n) e = refl
+
+  stays₂ : (k : Sess M → Answer M) (a : Answer M) → (a.number ≡ 0 → ⊥) → onward X T k a ≡ a
+  unfolding onward
+  stays₂ k a h = go a.number refl
+    where
+      go : (n : ℕ) → a.number ≡ n → (elim n as (λ m. Answer M) [ zero ↦ k a.sess | suc m ↦ a ]) ≡ a
+      go zero e = absurd (h e)
+      go (suc n) e = refl
+
+  on_both : (k₁ : Sess M₁ → Answer M₁) (k : Sess M → Answer M) → ((S₁ : Sess M₁) (S : Sess M) → SessionsUntil P Q S₁ S → AnswersUntil P Q E₁ E₂ (k₁ S₁) (k S))
+      → (a₁ : Answer M₁) (a : Answer M) → a₁.number ≡ a.number → SessionsUntil P Q a₁.sess a.sess → AnswersUntil P Q E₁ E₂ (onward X₁ T k₁ a₁) (onward X T k a)
+  unfolding onward
+  on_both k₁ k hk a₁ a e h =
+      subst (λ (n : ℕ). AnswersUntil P Q E₁ E₂ (elim n as (λ m. Answer M₁) [ zero ↦ k₁ a₁.sess | suc m ↦ a₁ ]) (elim a.number as (λ m. Answer M) [ zero ↦ k a.sess | suc m ↦ a ])) (sym e)
+      (go a.number)
+    where
+      go : (n : ℕ) → AnswersUntil P Q E₁ E₂ (elim n as (λ m. Answer M₁) [ zero ↦ k₁ a₁.sess | suc m ↦ a₁ ]) (elim n as (λ m. Answer M) [ zero ↦ k a.sess | suc m ↦ a ])
+      go zero = hk a₁.sess a.sess h
+      go (suc m) = answered e h
+
+  onward_until : (k₁ : Sess M₁ → Answer M₁) (k : Sess M → Answer M) → ((S₁ : Sess M₁) (S : Sess M) → SessionsUntil P Q S₁ S → AnswersUntil P Q E₁ E₂ (k₁ S₁) (k S))
+      → (a₁ : Answer M₁) (a : Answer M) → AnswersUntil P Q E₁ E₂ a₁ a → AnswersUntil P Q E₁ E₂ (onward X₁ T k₁ a₁) (onward X T k a)
+  onward_until k₁ k hk a₁ a (answered e h) = on_both k₁ k hk a₁ a e h
+  onward_until k₁ k hk a₁ a (left_answer w) = subst (λ (c : Answer M₁). AnswersUntil P Q E₁ E₂ c (onward X T k a)) (sym (stays₁ k₁ a₁ (λ e. al.m_zero₁ (subst E₁ e w)))) (left_answer w)
+  onward_until k₁ k hk a₁ a (right_answer w) = subst (λ (c : Answer M). AnswersUntil P Q E₁ E₂ (onward X₁ T k₁ a₁) c) (sym (stays₂ k a (λ e. al.m_zero₂ (subst E₂ e w)))) (right_answer w)
+
+  pub from_until : (room n x : ℕ) (S₁ : Sess M₁) (S : Sess M) → SessionsUntil P Q S₁ S → AnswersUntil P Q E₁ E₂ (from X₁ T room n x S₁) (from X T room n x S)
+  unfolding from
+  from_until room zero x S₁ S h = answered refl h
+  from_until room (suc n) x S₁ S h =
+      onward_until (from X₁ T room n (suc x)) (from X T room n (suc x)) (λ S₁' S' h'. from_until room n (suc x) S₁' S' h') (single X₁ T room S₁ x) (single X T room S x) (single_until room S₁ S h x)
+
+  every_as : (room : ℕ) (S₁ : Sess M₁) (S : Sess M) → SessionsUntil P Q S₁ S → (b : Bool) → AnswersUntil P Q E₁ E₂ (every X₁ T room S₁ b) (every X T room S b)
+  unfolding every
+  every_as room S₁ S h false = answered refl h
+  every_as room S₁ S h true = from_until room (T.count - 1) 1 S₁ S h
+
+  pub every_until : (room : ℕ) (S₁ : Sess M₁) (S : Sess M) → SessionsUntil P Q S₁ S → AnswersUntil P Q E₁ E₂ (every X₁ T room S₁ S₁.is_open) (every X T room S S.is_open)
+  every_until room S₁ S h = subst (λ (b : Bool). AnswersUntil P Q E₁ E₂ (every X₁ T room S₁ b) (every X T room S S.is_open)) (sym h.same_open) (every_as room S₁ S h S.is_open)
+
+-- ---- with no refusal that ends it
+
+module _ {M₁ H₁ M H : Type 0} (X₁ : Machine M₁ H₁) (X : Machine M H) (T : Table) (Good : M → Type 0) (ml : MLawful X Good T.count) (below : (x y : ℕ) → Memᴰ y (kids (T.node x)) → y < T.count) (Q : M₁ → M → Type 0)
+    (RH : H₁ → H → Type 0) (al : AlikeMachine X₁ X T.count Good Q RH) where
+  steps : AlikeSteps X₁ X T.count Q RH
   steps = record {
     a_eget = al.a_eget;
     a_emark = al.a_emark;
@@ -229,79 +354,34 @@ module _ {M₁ M : Type 0} (X₁ : Machine M₁) (X : Machine M) (T : Table) (Go
     a_alias = al.a_alias;
     a_leaf = al.a_leaf;
     a_body = al.a_body;
+    a_held = al.a_held;
   }
 
-  abbrev Lives : M₁ → M → Type 0
-  Lives s t = Live X₁.store X.store T Good ml.law (OrderKeeps X Good) ml.framed below Q al.a_store s t
-
-  abbrev Goes : M → M₁ → M → Bool → Type 0
-  Goes t₀ s t b = Went X₁.store X.store T Good ml.law (OrderKeeps X Good) ml.framed below Q al.a_store t₀ s t b
-
-  start_live : (room : ℕ) (s : M₁) (t : M) → Q s t → Lives (X₁.start room s) (X.start room t)
-  start_live room s t q = record {
-    related = al.a_start room s t q;
-    room = subst (λ (k : List ℕ). length k ≤ tally (X.store.get (X.start room t)) T.count) (sym e) (omega arith);
-    ids = λ y m. absurd (Memᴰ.not-nil (subst (Memᴰ y) e m));
+  machines : MachinesUntil X₁ X T.count Good Q Q RH Never Never
+  machines = record {
+    m_store = al.a_store;
+    m_list = al.a_list;
+    m_start = al.a_start;
+    m_steps = steps_until X₁ X T below Q RH steps;
+    m_shape = λ s t q. q;
+    m_leaving = al.a_leaving;
+    m_zero₁ = λ w. w;
+    m_zero₂ = λ w. w;
   }
-    where
-      e : X.store.list (X.start room t) ≡ []
-      e = ml.start_list room t (al.a_store.a_good s t q)
 
-  module _ (S₁ : Sess M₁) (S : Sess M) (h : BothSess Q S₁ S) where
-    shut_alike : (e : ℕ) → BothAnswer Q (shut X₁ T S₁ e) (shut X T S e)
-    unfolding shut
-    shut_alike e = record { same_number = refl; sessions = record { same_open = refl; same_asked = h.same_asked; alike = h.alike } }
+  at_rest : (S₁ : Sess M₁) (S : Sess M) → BothSess Q S₁ S → SessionsUntil Q Q S₁ S
+  at_rest S₁ S h = record { same_open = h.same_open; same_asked = h.same_asked; shape = h.alike; live = λ o. h.alike }
 
-    emitted_alike : (x : ℕ) {r₁ : Out M₁} {r : Out M} → BothOut Q r₁ r → BothAnswer Q (emitted X₁ T S₁ x r₁) (emitted X T S x r)
-    unfolding emitted
-    emitted_alike x (both_wrote s t q) = record { same_number = refl; sessions = record { same_open = refl; same_asked = ap (λ (k : List ℕ). k ++ (x ∷ [])) h.same_asked; alike = q } }
-    emitted_alike x (both_stuck e) = shut_alike e
-
-    ordered_alike : (x : ℕ) (t₀ : M) {r₁ : Res M₁} {r : Res M} → Both (Goes t₀) r₁ r → BothAnswer Q (ordered X₁ T S₁ x r₁) (ordered X T S x r)
-    unfolding ordered
-    ordered_alike x t₀ (both s t b w) =
-        emitted_alike x (subst (λ (k : List ℕ). BothOut Q (eeach (λ m y. emit X₁ T 512 m y 0) k s) (eeach (λ m y. emit X T 512 m y 0) (X.store.list t) t)) (sym (al.a_list s t w.live.related))
-        (eeach_alike X₁ X T below Q steps (λ m y. emit X₁ T 512 m y 0) (λ m y. emit X T 512 m y 0) (λ s' t' y q l. emit_alike X₁ X T below Q steps 512 s' t' y 0 q l) (X.store.list t) w.live.ids s t w.live.related))
-    ordered_alike x t₀ (neither e) = shut_alike e
-
-    gate_alike : (room x : ℕ) (o b : Bool) → ltb x T.count ≡ b → BothAnswer Q (gate X₁ T room S₁ x o b) (gate X T room S x o b)
-    unfolding gate
-    gate_alike room x false b e = record { same_number = refl; sessions = h }
-    gate_alike room x true false e = record { same_number = refl; sessions = h }
-    gate_alike room x true true e =
-        ordered_alike x (X.start room S.mach) (order_alike X₁.store X.store T Good ml.law (OrderKeeps X Good) ml.framed below Q al.a_store 512 (X₁.start room S₁.mach) (X.start room S.mach) x false
-        (start_live room S₁.mach S.mach h.alike) (ltb→lt x T.count (subst True (sym e) tt)))
+  both_answered : (a₁ : Answer M₁) (a : Answer M) → AnswersUntil Q Q Never Never a₁ a → BothAnswer Q a₁ a
+  both_answered a₁ a (answered e h) = record { same_number = e; sessions = record { same_open = h.same_open; same_asked = h.same_asked; alike = h.shape } }
+  both_answered a₁ a (left_answer w) = absurd w
+  both_answered a₁ a (right_answer w) = absurd w
 
   pub single_alike : (room : ℕ) (S₁ : Sess M₁) (S : Sess M) → BothSess Q S₁ S → (x : ℕ) → BothAnswer Q (single X₁ T room S₁ x) (single X T room S x)
-  unfolding single
-  single_alike room S₁ S h x =
-      subst (λ (o : Bool). BothAnswer Q (gate X₁ T room S₁ x o (ltb x T.count)) (gate X T room S x S.is_open (ltb x T.count))) (sym h.same_open)
-      (gate_alike S₁ S h room x S.is_open (ltb x T.count) refl)
-
-  onward_alike : (k₁ : Sess M₁ → Answer M₁) (k : Sess M → Answer M) → ((S₁ : Sess M₁) (S : Sess M) → BothSess Q S₁ S → BothAnswer Q (k₁ S₁) (k S))
-      → (a₁ : Answer M₁) (a : Answer M) → BothAnswer Q a₁ a → BothAnswer Q (onward X₁ T k₁ a₁) (onward X T k a)
-  unfolding onward
-  onward_alike k₁ k hk a₁ a h =
-      subst (λ (n : ℕ). BothAnswer Q (elim n as (λ m. Answer M₁) [ zero ↦ k₁ a₁.sess | suc m ↦ a₁ ]) (elim a.number as (λ m. Answer M) [ zero ↦ k a.sess | suc m ↦ a ])) (sym h.same_number)
-      (go a.number)
-    where
-      go : (n : ℕ) → BothAnswer Q (elim n as (λ m. Answer M₁) [ zero ↦ k₁ a₁.sess | suc m ↦ a₁ ]) (elim n as (λ m. Answer M) [ zero ↦ k a.sess | suc m ↦ a ])
-      go zero = hk a₁.sess a.sess h.sessions
-      go (suc m) = h
-
-  pub from_alike : (room n x : ℕ) (S₁ : Sess M₁) (S : Sess M) → BothSess Q S₁ S → BothAnswer Q (from X₁ T room n x S₁) (from X T room n x S)
-  unfolding from
-  from_alike room zero x S₁ S h = record { same_number = refl; sessions = h }
-  from_alike room (suc n) x S₁ S h =
-      onward_alike (from X₁ T room n (suc x)) (from X T room n (suc x)) (λ S₁' S' h'. from_alike room n (suc x) S₁' S' h') (single X₁ T room S₁ x) (single X T room S x) (single_alike room S₁ S h x)
-
-  every_by : (room : ℕ) (S₁ : Sess M₁) (S : Sess M) → BothSess Q S₁ S → (b : Bool) → BothAnswer Q (every X₁ T room S₁ b) (every X T room S b)
-  unfolding every
-  every_by room S₁ S h false = record { same_number = refl; sessions = h }
-  every_by room S₁ S h true = from_alike room (T.count - 1) 1 S₁ S h
+  single_alike room S₁ S h x = both_answered _ _ (single_until X₁ X T Good ml below Q Q RH Never Never machines room S₁ S (at_rest S₁ S h) x)
 
   pub every_alike : (room : ℕ) (S₁ : Sess M₁) (S : Sess M) → BothSess Q S₁ S → BothAnswer Q (every X₁ T room S₁ S₁.is_open) (every X T room S S.is_open)
-  every_alike room S₁ S h = subst (λ (b : Bool). BothAnswer Q (every X₁ T room S₁ b) (every X T room S S.is_open)) (sym h.same_open) (every_by room S₁ S h S.is_open)
+  every_alike room S₁ S h = both_answered _ _ (every_until X₁ X T Good ml below Q Q RH Never Never machines room S₁ S (at_rest S₁ S h))
 
   pub serve_alike : (S₁ : Sess M₁) (S : Sess M) → BothSess Q S₁ S → (r : Req) → BothSess Q (serve X₁ T S₁ r) (serve X T S r)
   unfolding serve

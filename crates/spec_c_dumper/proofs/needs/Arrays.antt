@@ -65,6 +65,6 @@ module _ (T : Table) where
     array_of_itself = record { rest = c ∷ []; chain = next needs_itself end; twice = now (Memᴰ.head refl) }
 
     -- so a request for it, unless too deep, is refused by 13
-    pub array_of_itself_refused : {M : Type 0} (X : Machine M) (S : Sess M) → Demand3 X T S → S.is_open ≡ true → (room : ℕ) → c < T.count → T.named c ≡ true
+    pub array_of_itself_refused : {M H : Type 0} (X : Machine M H) (S : Sess M) → Demand3 X T S → S.is_open ≡ true → (room : ℕ) → c < T.count → T.named c ≡ true
         → (ordering X T room S c ≡ refused 12 → ⊥) → (single X T room S c).number ≡ 13
     array_of_itself_refused X S d o room l n deep = (d.cycles o room c l (composite, n) deep).1 array_of_itself

@@ -96,20 +96,20 @@ record Due (T : Table) (x : ℕ) : Type 0 where
   weakly_free : (d : ℕ) (v : Bool) → Way (weaken T) T x true d v → (T.named d ≡ false) ⊎ (v ≡ false) → Loops T d → ⊥
   comp_free : is_comp (T.node x) ≡ true → Loops T x → ⊥
 
-module _ {M : Type 0} (X : Machine M) (T : Table) (Good : M → Type 0) (ml : MLawful X Good T.count) (wf : WF T) where
-  abbrev IsReady : List ℕ → M → Type 0
+module _ {M H : Type 0} (X : Machine M H) (T : Table) (Good : M → Type 0) (ml : MLawful X Good T.count) (wf : WF T) where
+  abbrev pub IsReady : List ℕ → M → Type 0
   IsReady pre s = Ready X.store T Good ml.law (OrderKeeps X Good) ml.framed pre s
 
-  abbrev IsBusy : M → ℕ → Type 0
+  abbrev pub IsBusy : M → ℕ → Type 0
   IsBusy s e = EBusy X T Good ml wf s e
 
   -- Emission of a list.
 
-  record EReady (l : List ℕ) (s : M) : Type 0 where
-    egood : Good s
-    unseen : (c : ℕ) → is_comp (T.node c) ≡ true → (Memᴰ c l → ⊥) → X.eget s c ≡ new
-    eidle : (e : ℕ) → IsBusy s e → ⊥
-    tagged : X.tags s ≡ defs T l
+  pub record EReady (l : List ℕ) (s : M) : Type 0 where
+    pub egood : Good s
+    pub unseen : (c : ℕ) → is_comp (T.node c) ≡ true → (Memᴰ c l → ⊥) → X.eget s c ≡ new
+    pub eidle : (e : ℕ) → IsBusy s e → ⊥
+    pub tagged : X.tags s ≡ defs T l
 
   sound_top : (l : List ℕ) (s : M) (x : ℕ) → EReady l s → Due T x → (NamedComp T x → Memᴰ x l → ⊥) → Sound-top X T Good ml wf s x
   sound_top l s x r h u = record {
@@ -203,30 +203,31 @@ module _ {M : Type 0} (X : Machine M) (T : Table) (Good : M → Type 0) (ml : ML
     tagged = e ∙ r.tagged;
   }
 
-  record SInv (S : Sess M) : Type 0 where
-    whole : List ℕ
-    sorted : Sorted T whole
-    defined : X.tags S.mach ≡ defs T whole
-    got : (x : ℕ) → Memᴰ x S.asked → NamedComp T x → Memᴰ x whole
-    live : S.is_open ≡ true → (room : ℕ) → IsReady whole (X.start room S.mach) × EReady whole (X.start room S.mach)
+  -- between requests
+  pub record SInv (S : Sess M) : Type 0 where
+    pub whole : List ℕ
+    pub sorted : Sorted T whole
+    pub defined : X.tags S.mach ≡ defs T whole
+    pub got : (x : ℕ) → Memᴰ x S.asked → NamedComp T x → Memᴰ x whole
+    pub live : S.is_open ≡ true → (room : ℕ) → IsReady whole (X.start room S.mach) × EReady whole (X.start room S.mach)
 
   -- what one request comes to
   record Served (room : ℕ) (S : Sess M) (x : ℕ) (a : Answer M) : Type 0 where
     inv : SInv a.sess
     cycle : S.is_open ≡ true → x < T.count → NamedComp T x → (ordering X T room S x ≡ refused 12 → ⊥) → (a.number ≡ 13) ↔ MeetsTwice T x
 
-  shut_inv : (S : Sess M) (e : ℕ) → SInv S → SInv (shut X T S e).sess
+  shut_inv : (S : Sess M) (h : H) (e : ℕ) → SInv S → SInv (shut X T S h e).sess
   unfolding shut
-  shut_inv S e i = record { whole = i.whole; sorted = i.sorted; defined = i.defined; got = i.got; live = λ h. absurd (true≢false (sym h)) }
+  shut_inv S h e i = record { whole = i.whole; sorted = i.sorted; defined = ml.leaving_tags h S.mach ∙ i.defined; got = i.got; live = λ o. absurd (true≢false (sym o)) }
 
-  shut_number : (S : Sess M) (e : ℕ) → (shut X T S e).number ≡ e
+  shut_number : (S : Sess M) (h : H) (e : ℕ) → (shut X T S h e).number ≡ e
   unfolding shut
-  shut_number S e = refl
+  shut_number S h e = refl
 
   abbrev IsOrdered : M → List ℕ → ℕ → M → Bool → Type 0
   IsOrdered s₀ pre x s b = Ordered X.store T Good ml.law (OrderKeeps X Good) ml.framed s₀ pre x s b
 
-  emitted_ok : (room : ℕ) (S : Sess M) (x : ℕ) (i : SInv S) (s : M) (b : Bool) → IsOrdered (X.start room S.mach) i.whole x s b → (r : Out M) → OHolds (Emitted (i.whole ++ X.store.list s) s) r → Served room S x (emitted X T S x r)
+  emitted_ok : (room : ℕ) (S : Sess M) (x : ℕ) (i : SInv S) (s : M) (b : Bool) → IsOrdered (X.start room S.mach) i.whole x s b → (r : Out M H) → OHolds (Emitted (i.whole ++ X.store.list s) s) r → Served room S x (emitted X T S x r)
   unfolding emitted
   emitted_ok room S x i s b o (wrote m) (ogood h) = record {
     inv = record {
@@ -248,20 +249,20 @@ module _ {M : Type 0} (X : Machine M) (T : Table) (Good : M → Type 0) (ml : ML
           let g : Good m = h.eready.egood in
           let q = ml.start_same r m g in
           (ready_next i.whole s (X.start r m) q.good (λ d. q.gets d ∙ h.gets d) (ml.start_list r m g) o.ready, eready_same (i.whole ++ X.store.list s) m (X.start r m) q.good q.egets q.tags_same h.eready)
-  emitted_ok room S x i s b o (stuck e) (obad f) = record {
-    inv = shut_inv S e i;
-    cycle = λ p l nc d. (λ h. absurd (f (sym (shut_number S e) ∙ h)), λ k. absurd (o.no_cycle nc k));
+  emitted_ok room S x i s b o (stuck m e) (obad f) = record {
+    inv = shut_inv S m e i;
+    cycle = λ p l nc d. (λ h. absurd (f (sym (shut_number S m e) ∙ h)), λ k. absurd (o.no_cycle nc k));
   }
 
   ordered_ok : (room : ℕ) (S : Sess M) (x : ℕ) (i : SInv S) → EReady i.whole (X.start room S.mach) → (r : Res M) → ordering X T room S x ≡ r → Holds (IsOrdered (X.start room S.mach) i.whole x) (NamedComp T x → MeetsTwice T x) r → Served room S x (ordered X T S x r)
   unfolding ordered
   ordered_ok room S x i er (ok s b) e (good o) = emitted_ok room S x i s b o (eeach (λ m y. emit X T 512 m y 0) (X.store.list s) s)
       (emit_list 512 (X.store.list s) i.whole s (eready_same i.whole (X.start room S.mach) s o.ready.inv.good' o.frame.egets o.frame.tags_same er) o.ready.inv.sorted (λ y m. due_of i.whole s o.ready y (Memᴰ.append_right i.whole m)))
-  ordered_ok room S x i er (refused n) e (bad h) = record { inv = shut_inv S n i; cycle = λ p l nc d. go nc d h }
+  ordered_ok room S x i er (refused n) e (bad h) = record { inv = shut_inv S (X.held S.mach) n i; cycle = λ p l nc d. go nc d h }
     where
-      go : NamedComp T x → (ordering X T room S x ≡ refused 12 → ⊥) → (n ≡ 12) ⊎ ((n ≡ 13) × (NamedComp T x → MeetsTwice T x)) → ((shut X T S n).number ≡ 13) ↔ MeetsTwice T x
+      go : NamedComp T x → (ordering X T room S x ≡ refused 12 → ⊥) → (n ≡ 12) ⊎ ((n ≡ 13) × (NamedComp T x → MeetsTwice T x)) → ((shut X T S (X.held S.mach) n).number ≡ 13) ↔ MeetsTwice T x
       go nc d (inl q) = absurd (d (e ∙ ap refused q))
-      go nc d (inr q) = (λ u. q.1 nc, λ u. shut_number S n ∙ q.0)
+      go nc d (inr q) = (λ u. q.1 nc, λ u. shut_number S (X.held S.mach) n ∙ q.0)
 
   gate_ok : (room : ℕ) (S : Sess M) (x : ℕ) → SInv S → (o b : Bool) → S.is_open ≡ o → ltb x T.count ≡ b → Served room S x (gate X T room S x o b)
   unfolding gate
@@ -291,7 +292,7 @@ module _ {M : Type 0} (X : Machine M) (T : Table) (Good : M → Type 0) (ml : ML
   every_ok room S false i = i
   every_ok room S true i = from_ok room (T.count - 1) 1 S i
 
-  serve_ok : (S : Sess M) (r : Req) → SInv S → SInv (serve X T S r)
+  pub serve_ok : (S : Sess M) (r : Req) → SInv S → SInv (serve X T S r)
   unfolding serve
   serve_ok S (one room x) i = (single_ok room S x i).inv
   serve_ok S (all room) i = every_ok room S S.is_open i
@@ -300,6 +301,26 @@ module _ {M : Type 0} (X : Machine M) (T : Table) (Good : M → Type 0) (ml : ML
   unfolding run
   run_ok [] S i = i
   run_ok (r ∷ rs) S i = run_ok rs (serve X T S r) (serve_ok S r i)
+
+  -- a machine that differs in what neither ordering nor emission looks at
+  pub same_ok : (S S' : Sess M) → S'.is_open ≡ S.is_open → S'.asked ≡ S.asked → X.tags S'.mach ≡ X.tags S.mach
+      → ((room : ℕ) → Good (X.start room S.mach) → Same X Good (X.start room S.mach) (X.start room S'.mach))
+      → ((room : ℕ) → X.store.list (X.start room S.mach) ≡ []) → ((room : ℕ) → X.store.list (X.start room S'.mach) ≡ []) → SInv S → SInv S'
+  same_ok S S' o a t q l l' i = record {
+    whole = i.whole;
+    sorted = i.sorted;
+    defined = t ∙ i.defined;
+    got = λ x k nc. i.got x (subst (Memᴰ x) a k) nc;
+    live = λ h room. go room (i.live (sym o ∙ h) room);
+  }
+    where
+      go : (room : ℕ) → IsReady i.whole (X.start room S.mach) × EReady i.whole (X.start room S.mach) → IsReady i.whole (X.start room S'.mach) × EReady i.whole (X.start room S'.mach)
+      go room r =
+          let e = q room r.1.egood in (
+            subst (λ (k : List ℕ). IsReady k (X.start room S'.mach)) (ap (λ (k : List ℕ). i.whole ++ k) (l room) ∙ append-nil i.whole)
+                (ready_next i.whole (X.start room S.mach) (X.start room S'.mach) e.good e.gets (l' room) r.0),
+            eready_same i.whole (X.start room S.mach) (X.start room S'.mach) e.good e.egets e.tags_same r.1,
+          )
 
   -- what opening leaves: nothing marked, nothing written
   pub record Opened (m : M) : Type 0 where
@@ -311,7 +332,7 @@ module _ {M : Type 0} (X : Machine M) (T : Table) (Good : M → Type 0) (ml : ML
   abbrev pub opened : M → Sess M
   opened m = record { is_open = true; mach = m; asked = [] }
 
-  opened_ok : (m : M) → Opened m → SInv (opened m)
+  pub opened_ok : (m : M) → Opened m → SInv (opened m)
   unfolding defs
   opened_ok m o = record {
     whole = [];
@@ -360,22 +381,19 @@ module _ {M : Type 0} (X : Machine M) (T : Table) (Good : M → Type 0) (ml : ML
           nb : (x : ℕ) → X.store.get (X.start r m) x ≡ busy → ⊥
           nb x h = busy_new (sym h ∙ q.gets x ∙ o.all_new x)
 
-pub demand3 : {M : Type 0} (X : Machine M) (T : Table) (Good : M → Type 0) (ml : MLawful X Good T.count) (wf : WF T) (m : M) → Opened X T Good ml wf m → (rs : List Req) → Demand3 X T (run X T rs (record { is_open = true; mach = m; asked = [] }))
-demand3 {M} X T Good ml wf m op rs = record {
-  asked_once = λ c k nc. once_in c nc (subst (Memᴰ c) (sym i.defined) (defs_mem T c i.whole (i.got c k nc) nc));
-  named_once = λ c k. let nc = (mem_defs T c i.whole (subst (Memᴰ c) i.defined k)).1 in (nc, once_in c nc k);
-  after_needs = λ l₁ l₂ c d e v n. (sorted_split T o l₁ l₂ c e (mem_defs T c i.whole (subst (Memᴰ c) (sym e ∙ i.defined) (Memᴰ.append_right l₁ (Memᴰ.head refl)))).1).after d v n;
-  cycles = λ p room c l nc d. (single_ok X T Good ml wf room S c i).cycle p l nc d;
-}
-  where
-    S : Sess M
-    S = run X T rs (record { is_open = true; mach = m; asked = [] })
+  pub demand3_of : (S : Sess M) → SInv S → Demand3 X T S
+  demand3_of S i = record {
+    asked_once = λ c k nc. once_in c nc (subst (Memᴰ c) (sym i.defined) (defs_mem T c i.whole (i.got c k nc) nc));
+    named_once = λ c k. let nc = (mem_defs T c i.whole (subst (Memᴰ c) i.defined k)).1 in (nc, once_in c nc k);
+    after_needs = λ l₁ l₂ c d e v n. (sorted_split T o l₁ l₂ c e (mem_defs T c i.whole (subst (Memᴰ c) (sym e ∙ i.defined) (Memᴰ.append_right l₁ (Memᴰ.head refl)))).1).after d v n;
+    cycles = λ p room c l nc d. (single_ok room S c i).cycle p l nc d;
+  }
+    where
+      o : Sorted T (X.tags S.mach)
+      o = subst (Sorted T) (sym i.defined) (sorted_defs T i.sorted)
 
-    i : SInv X T Good ml wf S
-    i = run_ok X T Good ml wf rs (record { is_open = true; mach = m; asked = [] }) (opened_ok X T Good ml wf m op)
+      once_in : (c : ℕ) → NamedComp T c → Memᴰ c (X.tags S.mach) → Once c (X.tags S.mach)
+      once_in c nc k = sorted_once T (X.tags S.mach) o c nc k
 
-    o : Sorted T (X.tags S.mach)
-    o = subst (Sorted T) (sym i.defined) (sorted_defs T i.sorted)
-
-    once_in : (c : ℕ) → NamedComp T c → Memᴰ c (X.tags S.mach) → Once c (X.tags S.mach)
-    once_in c nc k = sorted_once T (X.tags S.mach) o c nc k
+pub demand3 : {M H : Type 0} (X : Machine M H) (T : Table) (Good : M → Type 0) (ml : MLawful X Good T.count) (wf : WF T) (m : M) → Opened X T Good ml wf m → (rs : List Req) → Demand3 X T (run X T rs (record { is_open = true; mach = m; asked = [] }))
+demand3 X T Good ml wf m op rs = demand3_of X T Good ml wf _ (run_ok X T Good ml wf rs (record { is_open = true; mach = m; asked = [] }) (opened_ok X T Good ml wf m op))

@@ -1,4 +1,4 @@
--- What each step of a machine keeps, ordering, emission and sessions keep. Assumes nothing.
+-- What each step of a machine keeps, ordering, emission and sessions keep, with what is known of the names where it is refused. Assumes nothing.
 use Prim.Native.Nat.{ℕ, zero, suc}
 use mathlib.Core.Path.{◌≡◌, refl}
 use mathlib.Core.Bool.{Bool, true, false, not, ◌&&◌, ◌||◌}
@@ -8,27 +8,28 @@ use Rattle.spec_c_dumper.specs.rules.Order.{Node, ignored, plain, listed, throug
 use Rattle.spec_c_dumper.specs.rules.Machine.{Out, wrote, stuck, Machine, is_zero, pick, obind, eeach, once, mention, again, close, leaf, within, begin, allowed, look, emit, Sess, Answer, Req, one, all, shut, emitted, ordered, gate, single, onward, from, every, serve, run}
 use Rattle.spec_c_dumper.specs.needs.Bodies.{is_leaf}
 
-pub data Leaves {M : Type 0} (P : M → Type 0) : Out M → Type 0 where
-  leaves : (s : M) → P s → Leaves P (wrote s)
-  stops : (e : ℕ) → Leaves P (stuck e)
+-- J: of what is held of the names at a refusal
+pub data Leaves {M H : Type 0} (P : M → Type 0) (J : H → Type 0) : Out M H → Type 0 where
+  leaves : (s : M) → P s → Leaves P J (wrote s)
+  stops : (h : H) (e : ℕ) → J h → Leaves P J (stuck h e)
 
 data Listed {M : Type 0} (P : M → Type 0) : Res M → Type 0 where
   lists : (s : M) (b : Bool) → P s → Listed P (ok s b)
   refuses : (e : ℕ) → Listed P (refused e)
 
 -- the steps, each with the kind of type that it is made for
-pub record Steps {M : Type 0} (X : Machine M) (T : Table) (P : M → Type 0) : Type 0 where
+pub record Steps {M H : Type 0} (X : Machine M H) (T : Table) (P : M → Type 0) (J : H → Type 0) : Type 0 where
   pub k_mark : (m : Mark) (x : ℕ) (s : M) → P s → P (X.store.mark m x s)
   pub k_push : (x : ℕ) (s : M) → P s → P (X.store.push x s)
-  pub k_start : (room : ℕ) (s : M) → P s → P (X.start room s)
   pub k_emark : (m : Mark) (x : ℕ) (s : M) → P s → P (X.emark m x s)
   pub k_forwarded : (x : ℕ) (s : M) → P s → P (X.forwarded x s)
-  pub k_fwd : (s : M) (x : ℕ) → P s → Leaves P (X.fwd_line s x)
-  pub k_alias : (s : M) (x : ℕ) → P s → Leaves P (X.alias_line s x)
-  pub k_leaf : (s : M) (x : ℕ) → is_leaf (T.node x) ≡ true → P s → Leaves P (X.leaf_line s x)
-  pub k_body : (s : M) (x : ℕ) → is_comp (T.node x) ≡ true → P s → Leaves P (X.body s x)
+  pub k_fwd : (s : M) (x : ℕ) → P s → Leaves P J (X.fwd_line s x)
+  pub k_alias : (s : M) (x : ℕ) → P s → Leaves P J (X.alias_line s x)
+  pub k_leaf : (s : M) (x : ℕ) → is_leaf (T.node x) ≡ true → P s → Leaves P J (X.leaf_line s x)
+  pub k_body : (s : M) (x : ℕ) → is_comp (T.node x) ≡ true → P s → Leaves P J (X.body s x)
+  pub k_held : (s : M) → P s → J (X.held s)
 
-module _ {M : Type 0} (X : Machine M) (T : Table) (P : M → Type 0) (k : Steps X T P) where
+module _ {M H : Type 0} (X : Machine M H) (T : Table) (P : M → Type 0) (J : H → Type 0) (k : Steps X T P J) where
   -- ---- ordering
   bind_kept : (r : Res M) (f : M → Bool → Res M) → Listed P r → ((s : M) (b : Bool) → P s → Listed P (f s b)) → Listed P (bind r f)
   unfolding bind
@@ -87,28 +88,28 @@ module _ {M : Type 0} (X : Machine M) (T : Table) (P : M → Type 0) (k : Steps 
   order_kept_lem (suc n) s x weak p = visit_kept (λ s' y w. order X.store n T s' y w) (λ s' y w p'. order_kept_lem n s' y w p') s x weak p (X.store.get s x)
 
   -- ---- emission
-  obind_kept : (o : Out M) (f : M → Out M) → Leaves P o → ((s : M) → P s → Leaves P (f s)) → Leaves P (obind o f)
+  obind_kept : (o : Out M H) (f : M → Out M H) → Leaves P J o → ((s : M) → P s → Leaves P J (f s)) → Leaves P J (obind o f)
   unfolding obind
   obind_kept _ f (leaves s p) h = h s p
-  obind_kept _ f (stops e) h = stops e
+  obind_kept _ f (stops h₀ e j) h = stops h₀ e j
 
-  eeach_kept : (f : M → ℕ → Out M) → ((s : M) (y : ℕ) → P s → Leaves P (f s y)) → (ys : List ℕ) (s : M) → P s → Leaves P (eeach f ys s)
+  eeach_kept : (f : M → ℕ → Out M H) → ((s : M) (y : ℕ) → P s → Leaves P J (f s y)) → (ys : List ℕ) (s : M) → P s → Leaves P J (eeach f ys s)
   unfolding eeach
   eeach_kept f h [] s p = leaves s p
   eeach_kept f h (y ∷ ys) s p = obind_kept (f s y) (eeach f ys) (h s y p) (λ s' p'. eeach_kept f h ys s' p')
 
-  once_kept : (w : M → ℕ → Out M) → ((s : M) (x : ℕ) → P s → Leaves P (w s x)) → (x : ℕ) (b : Bool) (s : M) → P s → Leaves P (once X T w x b s)
+  once_kept : (w : M → ℕ → Out M H) → ((s : M) (x : ℕ) → P s → Leaves P J (w s x)) → (x : ℕ) (b : Bool) (s : M) → P s → Leaves P J (once X T w x b s)
   unfolding once
   once_kept w h x true s p = leaves s p
   once_kept w h x false s p = obind_kept (w s x) _ (h s x p) (λ s' p'. leaves _ (k.k_forwarded x s' p'))
 
-  mention_kept : (b nm : Bool) (x : ℕ) (s : M) → P s → Leaves P (mention X T b nm x s)
+  mention_kept : (b nm : Bool) (x : ℕ) (s : M) → P s → Leaves P J (mention X T b nm x s)
   unfolding mention
   mention_kept true nm x s p = leaves s p
   mention_kept false true x s p = once_kept X.fwd_line k.k_fwd x false s p
-  mention_kept false false x s p = stops 13
+  mention_kept false false x s p = stops _ 13 (k.k_held s p)
 
-  again_kept : (s : M) (x cont : ℕ) → P s → (nd : Node) → Leaves P (again X T s x cont nd)
+  again_kept : (s : M) (x cont : ℕ) → P s → (nd : Node) → Leaves P J (again X T s x cont nd)
   unfolding again
   again_kept s x cont p ignored = leaves s p
   again_kept s x cont p plain = leaves s p
@@ -119,23 +120,23 @@ module _ {M : Type 0} (X : Machine M) (T : Table) (P : M → Type 0) (k : Steps 
   again_kept s x cont p (proto ts) = leaves s p
   again_kept s x cont p (comp ms) = mention_kept (X.has_fwd s x || eqb x cont) (T.named x) x s p
 
-  close_kept : (b : Bool) (x : ℕ) (s : M) → is_comp (T.node x) ≡ true → P s → Leaves P (close X T b x s)
+  close_kept : (b : Bool) (x : ℕ) (s : M) → is_comp (T.node x) ≡ true → P s → Leaves P J (close X T b x s)
   unfolding close
   close_kept true x s c p = obind_kept (X.body s x) _ (k.k_body s x c p) (λ s' p'. leaves _ (k.k_emark done x s' p'))
   close_kept false x s c p = leaves _ (k.k_emark new x s p)
 
-  leaf_kept : (b : Bool) (x : ℕ) (s : M) → is_leaf (T.node x) ≡ true → P s → Leaves P (leaf X T b x s)
+  leaf_kept : (b : Bool) (x : ℕ) (s : M) → is_leaf (T.node x) ≡ true → P s → Leaves P J (leaf X T b x s)
   unfolding leaf
   leaf_kept true x s c p = obind_kept (X.leaf_line s x) _ (k.k_leaf s x c p) (λ s' p'. leaves _ (k.k_emark done x s' p'))
   leaf_kept false x s c p = leaves _ (k.k_emark done x s p)
 
-  module _ (rec : M → ℕ → ℕ → Out M) (h : (s : M) (x cont : ℕ) → P s → Leaves P (rec s x cont)) (s : M) (x cont : ℕ) (p : P s) where
-    within_kept : (b nm : Bool) (ms : List ℕ) → Leaves P (within X T rec s x cont b nm ms)
+  module _ (rec : M → ℕ → ℕ → Out M H) (h : (s : M) (x cont : ℕ) → P s → Leaves P J (rec s x cont)) (s : M) (x cont : ℕ) (p : P s) where
+    within_kept : (b nm : Bool) (ms : List ℕ) → Leaves P J (within X T rec s x cont b nm ms)
     unfolding within
     within_kept true nm ms = eeach_kept (λ s' y. rec s' y (pick nm x cont)) (λ s' y p'. h s' y (pick nm x cont) p') ms (X.emark busy x s) (k.k_emark busy x s p)
     within_kept false nm ms = once_kept X.fwd_line k.k_fwd x (X.has_fwd s x || eqb x cont) (X.emark busy x s) (k.k_emark busy x s p)
 
-    begin_kept : (top : Bool) (nd : Node) → T.node x ≡ nd → Leaves P (begin X T rec s x cont top nd)
+    begin_kept : (top : Bool) (nd : Node) → T.node x ≡ nd → Leaves P J (begin X T rec s x cont top nd)
     unfolding begin
     begin_kept top ignored e = leaves s p
     begin_kept top plain e = leaves s p
@@ -148,40 +149,53 @@ module _ {M : Type 0} (X : Machine M) (T : Table) (P : M → Type 0) (k : Steps 
     begin_kept top (proto ts) e = eeach_kept (λ s' y. rec s' y cont) (λ s' y p'. h s' y cont p') ts s p
     begin_kept top (comp ms) e = obind_kept (within X T rec s x cont (top || not (T.named x)) (T.named x) ms) (close X T top x) (within_kept (top || not (T.named x)) (T.named x) ms) (λ s' p'. close_kept top x s' (rw e refl) p')
 
-    allowed_kept : (b : Bool) → Leaves P (allowed X T rec s x cont b)
+    allowed_kept : (b : Bool) → Leaves P J (allowed X T rec s x cont b)
     unfolding allowed
-    allowed_kept true = stops 14
+    allowed_kept true = stops _ 14 (k.k_held s p)
     allowed_kept false = begin_kept (is_zero cont) (T.node x) refl
 
-    look_kept : (m : Mark) → Leaves P (look X T rec s x cont m)
+    look_kept : (m : Mark) → Leaves P J (look X T rec s x cont m)
     unfolding look
     look_kept new = allowed_kept (is_zero cont && not (T.named x))
     look_kept busy = again_kept s x cont p (T.node x)
     look_kept done = leaves s p
 
-  emit_kept : (n : ℕ) (s : M) (x cont : ℕ) → P s → Leaves P (emit X T n s x cont)
+  emit_kept : (n : ℕ) (s : M) (x cont : ℕ) → P s → Leaves P J (emit X T n s x cont)
   unfolding emit
-  emit_kept zero s x cont p = stops 12
+  emit_kept zero s x cont p = stops _ 12 (k.k_held s p)
   emit_kept (suc n) s x cont p = look_kept (λ s' y c. emit X T n s' y c) (λ s' y c p'. emit_kept n s' y c p') s x cont p (X.eget s x)
 
-  -- ---- sessions
-  emitted_kept : (S : Sess M) (x : ℕ) (o : Out M) → P S.mach → Leaves P o → P (emitted X T S x o).sess.mach
-  unfolding emitted shut
-  emitted_kept S x _ p (leaves s q) = q
-  emitted_kept S x _ p (stops e) = p
+-- ---- sessions
 
-  ordered_kept : (S : Sess M) (x : ℕ) (r : Res M) → P S.mach → Listed P r → P (ordered X T S x r).sess.mach
+-- P: between requests; Q, J: within a request that found the machine g
+pub record Requests {M H : Type 0} (X : Machine M H) (T : Table) (P : M → Type 0) (Q : M → M → Type 0) (J : M → H → Type 0) : Type 0 where
+  pub k_steps : (g : M) → P g → Steps X T (Q g) (J g)
+  pub k_start : (room : ℕ) (g : M) → P g → Q g (X.start room g)
+  pub k_end : (g s : M) → Q g s → P s
+  pub k_refused : (g : M) → P g → J g (X.held g)
+  pub k_leaving : (g : M) (h : H) → P g → J g h → P (X.leaving h g)
+
+module _ {M H : Type 0} (X : Machine M H) (T : Table) (P : M → Type 0) (Q : M → M → Type 0) (J : M → H → Type 0) (k : Requests X T P Q J) where
+  emitted_kept : (S : Sess M) (x : ℕ) (o : Out M H) → P S.mach → Leaves (Q S.mach) (J S.mach) o → P (emitted X T S x o).sess.mach
+  unfolding emitted shut
+  emitted_kept S x _ p (leaves s q) = k.k_end S.mach s q
+  emitted_kept S x _ p (stops h e j) = k.k_leaving S.mach h p j
+
+  ordered_kept : (S : Sess M) (x : ℕ) (r : Res M) → P S.mach → Listed (Q S.mach) r → P (ordered X T S x r).sess.mach
   unfolding ordered shut
-  ordered_kept S x _ p (lists s b q) = emitted_kept S x _ p (eeach_kept (λ m y. emit X T 512 m y 0) (λ m y q'. emit_kept 512 m y 0 q') (X.store.list s) s q)
-  ordered_kept S x _ p (refuses e) = p
+  ordered_kept S x _ p (lists s b q) =
+      let steps = k.k_steps S.mach p in
+      emitted_kept S x _ p (eeach_kept X T (Q S.mach) (J S.mach) steps (λ m y. emit X T 512 m y 0) (λ m y q'. emit_kept X T (Q S.mach) (J S.mach) steps 512 m y 0 q') (X.store.list s) s q)
+  ordered_kept S x _ p (refuses e) = k.k_leaving S.mach (X.held S.mach) p (k.k_refused S.mach p)
 
   gate_kept : (room : ℕ) (S : Sess M) (x : ℕ) (opened below : Bool) → P S.mach → P (gate X T room S x opened below).sess.mach
   unfolding gate
   gate_kept room S x false below p = p
   gate_kept room S x true false p = p
-  gate_kept room S x true true p = ordered_kept S x _ p (order_kept_lem 512 (X.start room S.mach) x false (k.k_start room S.mach p))
+  gate_kept room S x true true p =
+      ordered_kept S x _ p (order_kept_lem X T (Q S.mach) (J S.mach) (k.k_steps S.mach p) 512 (X.start room S.mach) x false (k.k_start room S.mach p))
 
-  single_kept : (room : ℕ) (S : Sess M) (x : ℕ) → P S.mach → P (single X T room S x).sess.mach
+  pub single_kept : (room : ℕ) (S : Sess M) (x : ℕ) → P S.mach → P (single X T room S x).sess.mach
   unfolding single
   single_kept room S x p = gate_kept room S x S.is_open (ltb x T.count) p
 
@@ -195,7 +209,7 @@ module _ {M : Type 0} (X : Machine M) (T : Table) (P : M → Type 0) (k : Steps 
   from_kept room zero x S p = p
   from_kept room (suc n) x S p = onward_kept (from X T room n (suc x)) (λ S' p'. from_kept room n (suc x) S' p') (single X T room S x) (single X T room S x).number refl (single_kept room S x p)
 
-  every_kept : (room : ℕ) (S : Sess M) (opened : Bool) → P S.mach → P (every X T room S opened).sess.mach
+  pub every_kept : (room : ℕ) (S : Sess M) (opened : Bool) → P S.mach → P (every X T room S opened).sess.mach
   unfolding every
   every_kept room S false p = p
   every_kept room S true p = from_kept room _ 1 S p

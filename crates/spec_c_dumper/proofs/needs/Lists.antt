@@ -20,11 +20,11 @@ tags_append (defines x t ∷ ps) b = ap {B = List ℕ} (λ l. x ∷ l) (tags_app
 tags_append (other t ∷ ps) b = tags_append ps b
 
 -- a line that is not refused as a cycle
-pub data FineLine {U : Type 0} : Line U → Type 0 where
+pub data FineLine {U H : Type 0} : Line U H → Type 0 where
   fine_says : (u : U) (t : List ℕ) → FineLine (says u t)
-  fine_cannot : (e : ℕ) → Fine e → FineLine (cannot e)
+  fine_cannot : {h : H} (e : ℕ) → Fine e → FineLine (cannot h e)
 
-pub record FineLines {U : Type 0} (L : Lines U) : Type 0 where
+pub record FineLines {U H : Type 0} (L : Lines U H) : Type 0 where
   pub f_fwd : (room : ℕ) (u : U) (x : ℕ) → FineLine (L.fwd room u x)
   pub f_alias : (room : ℕ) (u : U) (x : ℕ) → FineLine (L.alias' room u x)
   pub f_leaf : (room : ℕ) (u : U) (x : ℕ) → FineLine (L.leaf' room u x)
@@ -35,13 +35,13 @@ module _ {U : Type 0} where
     pub marks_n : length s.marks ≡ n
     pub emits_n : length s.emits ≡ n
 
-  module _ (L : Lines U) (fine : FineLines L) (n : ℕ) where
-    quiet_put : (s : Ls U) → Sized n s → (l : Line U) → FineLine l → OHolds (Same (list_machine L) (Sized n) s) (put_line other s l)
+  module _ {H : Type 0} (L : Lines U H) (fine : FineLines L) (n : ℕ) where
+    quiet_put : (s : Ls U) → Sized n s → (l : Line U H) → FineLine l → OHolds (Same (list_machine L) (Sized n) s) (put_line other s l)
     unfolding tags_of
     quiet_put s g _ (fine_says u t) = ogood (record { good = record { marks_n = g.marks_n; emits_n = g.emits_n }; gets = λ d. refl; egets = λ d. refl; tags_same = tags_append s.pieces (other t ∷ []) ∙ append-nil (tags_of s.pieces) })
     quiet_put s g _ (fine_cannot e f) = obad f
 
-    def_put : (s : Ls U) (x : ℕ) → Sized n s → (l : Line U) → FineLine l → OHolds (Defines (list_machine L) (Sized n) x s) (put_line (defines x) s l)
+    def_put : (s : Ls U) (x : ℕ) → Sized n s → (l : Line U H) → FineLine l → OHolds (Defines (list_machine L) (Sized n) x s) (put_line (defines x) s l)
     unfolding tags_of
     def_put s x g _ (fine_says u t) = ogood (record { good = record { marks_n = g.marks_n; emits_n = g.emits_n }; gets = λ d. refl; egets = λ d. refl; tagged = tags_append s.pieces (defines x t ∷ []) })
     def_put s x g _ (fine_cannot e f) = obad f
@@ -75,10 +75,11 @@ module _ {U : Type 0} where
       alias_same = λ s x g l. quiet_put s g (L.alias' s.room s.known x) (fine.f_alias s.room s.known x);
       leaf_same = λ s x g l. quiet_put s g (L.leaf' s.room s.known x) (fine.f_leaf s.room s.known x);
       body_defines = λ s x g l. def_put s x g (L.body' s.room s.known x) (fine.f_body s.room s.known x);
+      leaving_tags = λ h s. refl;
     }
 
 -- Demand 3 for plain lists, over any lines that are not refused as cycles.
-pub lists_demand3 : {U : Type 0} (L : Lines U) → FineLines L → (T : Table) → WF T → (u : U) (rs : List Req)
+pub lists_demand3 : {U H : Type 0} (L : Lines U H) → FineLines L → (T : Table) → WF T → (u : U) (rs : List Req)
     → Demand3 (list_machine L) T (run (list_machine L) T rs (record { is_open = true; mach = afresh T.count u; asked = [] }))
 unfolding afresh tags_of
 lists_demand3 {U} L fine T wf u rs = demand3 (list_machine L) T (Sized T.count) (list_lawful L fine T.count) wf (afresh T.count u) (record {

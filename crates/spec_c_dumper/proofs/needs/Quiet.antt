@@ -19,12 +19,12 @@ fine_12 e = omega arith
 fine_14 : Fine 14
 fine_14 e = omega arith
 
-pub oholds_bind : {M : Type 0} {Q Q' : M → Type 0} {r : Out M} {k : M → Out M} → OHolds Q r → ((s : M) → Q s → OHolds Q' (k s)) → OHolds Q' (obind r k)
+pub oholds_bind : {M H : Type 0} {Q Q' : M → Type 0} {r : Out M H} {k : M → Out M H} → OHolds Q r → ((s : M) → Q s → OHolds Q' (k s)) → OHolds Q' (obind r k)
 unfolding obind
 oholds_bind (ogood h) f = f _ h
 oholds_bind (obad h) f = obad h
 
-pub oholds_map : {M : Type 0} {Q Q' : M → Type 0} {r : Out M} → ((s : M) → Q s → Q' s) → OHolds Q r → OHolds Q' r
+pub oholds_map : {M H : Type 0} {Q Q' : M → Type 0} {r : Out M H} → ((s : M) → Q s → Q' s) → OHolds Q r → OHolds Q' r
 oholds_map f (ogood h) = ogood (f _ h)
 oholds_map f (obad h) = obad h
 
@@ -57,7 +57,7 @@ defs_none : (T : Table) (x : ℕ) → is_comp (T.node x) ≡ false → defs T (x
 unfolding defs
 defs_none T x nc = rw nc refl
 
-module _ {M : Type 0} (X : Machine M) (T : Table) (Good : M → Type 0) (ml : MLawful X Good T.count) (wf : WF T) where
+module _ {M H : Type 0} (X : Machine M H) (T : Table) (Good : M → Type 0) (ml : MLawful X Good T.count) (wf : WF T) where
   abbrev eget : M → ℕ → Mark
   eget s x = X.eget s x
 
@@ -99,7 +99,7 @@ module _ {M : Type 0} (X : Machine M) (T : Table) (Good : M → Type 0) (ml : ML
       go c h (yes r) = subst (λ (k : ℕ). eget (emark new x s') k ≡ eget s k) (sym r) (ml.emark_same new x s' q.good l ∙ sym e)
       go c h (no r) = ml.emark_other new x s' q.good l c r ∙ q.comps c h ∙ ml.emark_other busy x s g l c r
 
-  once_ok : (w : M → ℕ → Out M) (x : ℕ) (b : Bool) (s : M) → Good s → x < T.count → OHolds (Same X Good s) (w s x) → OHolds (Quiet s) (once X T w x b s)
+  once_ok : (w : M → ℕ → Out M H) (x : ℕ) (b : Bool) (s : M) → Good s → x < T.count → OHolds (Same X Good s) (w s x) → OHolds (Quiet s) (once X T w x b s)
   unfolding once
   once_ok w x true s g l f = ogood (quiet_refl s g)
   once_ok w x false s g l f = oholds_bind f (λ s' h. ogood (quiet_trans (quiet_same s s' h) (quiet_same s' (X.forwarded x s') (ml.forwarded_same x s' h.good l))))
@@ -114,10 +114,10 @@ module _ {M : Type 0} (X : Machine M) (T : Table) (Good : M → Type 0) (ml : ML
   tdef_id : (x t : ℕ) → T.node x ≡ tdef t → x ≡ 0 → ⊥
   tdef_id x t e q = let p : T.node 0 ≡ plain = wf.void in let z : ◌≡◌ {A = ℕ} 0 1 = cc in omega arith
 
-  abbrev ENested : (M → ℕ → ℕ → Out M) → Type 0
+  abbrev ENested : (M → ℕ → ℕ → Out M H) → Type 0
   ENested rec = (s : M) (x cont : ℕ) → Good s → x < T.count → (cont ≡ 0 → ⊥) → Gee T ⊥ (EBusy s) x true → OHolds (Quiet s) (rec s x cont)
 
-  module _ (rec : M → ℕ → ℕ → Out M) (keeps : ENested rec) where
+  module _ (rec : M → ℕ → ℕ → Out M H) (keeps : ENested rec) where
     eeach_ok : (cont : ℕ) → (cont ≡ 0 → ⊥) → (ys : List ℕ) (s : M) → Good s → ((y : ℕ) → Memᴰ y ys → y < T.count) → ((y : ℕ) → Memᴰ y ys → Gee T ⊥ (EBusy s) y true) → OHolds (Quiet s) (eeach (λ s' y. rec s' y cont) ys s)
     unfolding eeach
     eeach_ok cont nz [] s z l g = ogood (quiet_refl s z)
@@ -236,7 +236,7 @@ module _ {M : Type 0} (X : Machine M) (T : Table) (Good : M → Type 0) (ml : ML
   }))
 
   module _ (n : ℕ) (s : M) (x : ℕ) (z : Good s) (h : Sound-top s x) where
-    abbrev rec_n : M → ℕ → ℕ → Out M
+    abbrev rec_n : M → ℕ → ℕ → Out M H
     rec_n s' y c = emit X T n s' y c
 
     no_def : (nd : Node) → T.node x ≡ nd → is_def nd ≡ false → ⊥
@@ -264,7 +264,7 @@ module _ {M : Type 0} (X : Machine M) (T : Table) (Good : M → Type 0) (ml : ML
     allowed_top true = obad fine_14
     allowed_top false = begin_top (T.node x) refl
 
-    seen_top : (m : Mark) → eget s x ≡ m → (m ≡ new → ⊥) → (b : Bool) → is_comp (T.node x) ≡ b → (r : Out M) → OHolds (Quiet s) r → OHolds (TopPost x s) r
+    seen_top : (m : Mark) → eget s x ≡ m → (m ≡ new → ⊥) → (b : Bool) → is_comp (T.node x) ≡ b → (r : Out M H) → OHolds (Quiet s) r → OHolds (TopPost x s) r
     seen_top m e k true c r q = absurd (k (sym e ∙ h.unseen c))
     seen_top m e k false c r q = oholds_map (quiet_top x c s) q
 

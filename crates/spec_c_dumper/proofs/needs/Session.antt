@@ -31,26 +31,29 @@ fine_code c (inr (inr (inr e))) = λ q. omega arith
 fine_17 : Fine 17
 fine_17 e = omega arith
 
+fine_20 : Fine 20
+fine_20 e = omega arith
+
 module _ {U : Type 0} where
-  fine_fitting : (len : ℕ) (u : U) (t : Text) → Told t → FineLine (fitting len u t)
+  fine_fitting : (len : ℕ) (u : U) (t : Text) → Told Fine t → FineLine (fitting len u t)
   unfolding fitting
   fine_fitting len u _ (told a) = fine_says _ a
-  fine_fitting len u _ (cut_by a c q) = fine_cannot c (fine_code c q)
+  fine_fitting len u _ (cut_by a c q) = fine_cannot c q
 
-  fine_line : (room len : ℕ) (s : Said U) → Told (said_text s) → FineLine (line_of room len s)
+  fine_line : (room len : ℕ) (s : Said U) → Told Fine (said_text s) → FineLine (line_of room len s)
   unfolding line_of said_text
-  fine_line room len (said u t) h = go (leb (len + length (bytes t)) (smaller room 1073741824))
+  fine_line room len (said u t m) h = go _ (leb (len + length (bytes t)) (smaller room 1073741824))
     where
-      go : (b : Bool) → FineLine {U = Known U} (elim b [ true ↦ fitting len u t | false ↦ cannot 17 ])
-      go true = fine_fitting len u t h
-      go false = fine_cannot 17 fine_17
+      go : (w : U) (b : Bool) → FineLine {U = Known U} (elim b [ true ↦ fitting len u t | false ↦ cannot w 17 ])
+      go w true = fine_fitting len u t h
+      go w false = fine_cannot 17 fine_17
 
 module _ {U : Type 0} (N : Naming U) (B : Btf) where
   forward_fine : (room : ℕ) (k : Known U) (id : ℕ) → FineLine (line_of room k.text_len (forward N B id (B.type_by_id id) k.names))
-  forward_fine room k id = fine_line room k.text_len (forward N B id (B.type_by_id id) k.names) (tells_forward N B id (B.type_by_id id) k.names)
+  forward_fine room k id = fine_line room k.text_len (forward N B id (B.type_by_id id) k.names) (tells_forward N Fine fine_code (λ p. fine_20) B id (B.type_by_id id) k.names)
 
   definition_fine : (room : ℕ) (k : Known U) (id : ℕ) → FineLine (line_of room k.text_len (definition N B id (B.type_by_id id) k.names))
-  definition_fine room k id = fine_line room k.text_len (definition N B id (B.type_by_id id) k.names) (tells_definition N B id (B.type_by_id id) k.names)
+  definition_fine room k id = fine_line room k.text_len (definition N B id (B.type_by_id id) k.names) (tells_definition N Fine fine_code (λ p. fine_20) B id (B.type_by_id id) k.names)
 
   pub fine_lines : FineLines (lines_by N B)
   fine_lines = record { f_fwd = forward_fine; f_alias = forward_fine; f_leaf = definition_fine; f_body = definition_fine }

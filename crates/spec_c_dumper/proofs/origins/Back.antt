@@ -17,7 +17,7 @@ use Rattle.spec_c_dumper.proofs.origins.Keeps.{Comes, comes, halts, comes_bind, 
 use Rattle.spec_c_dumper.proofs.listed_twice.Ordering.{new_busy, done_busy}
 
 -- what is asked of a machine's marks
-pub record Turns {M : Type 0} (X : Machine M) : Type 0 where
+pub record Turns {M H : Type 0} (X : Machine M H) : Type 0 where
   pub t_busy : (x y : ℕ) (m : M) → X.eget (X.emark busy x m) y ≡ busy → (y ≡ x) ⊎ (X.eget m y ≡ busy)
   pub t_done : (x y : ℕ) (m : M) → X.eget (X.emark done x m) y ≡ busy → (y ≢ x) × (X.eget m y ≡ busy)
   pub t_new : (x y : ℕ) (m : M) → X.eget (X.emark new x m) y ≡ busy → (y ≢ x) × (X.eget m y ≡ busy)
@@ -27,12 +27,12 @@ pub record Turns {M : Type 0} (X : Machine M) : Type 0 where
   pub t_leaf : (m : M) (x : ℕ) → Comes (λ m'. (y : ℕ) → X.eget m' y ≡ X.eget m y) (X.leaf_line m x)
   pub t_body : (m : M) (x : ℕ) → Comes (λ m'. (y : ℕ) → X.eget m' y ≡ X.eget m y) (X.body m x)
 
-module _ {M : Type 0} (X : Machine M) (room : ℕ → Bool) (shows : ℕ → Bool) (why : ℕ → Entry) (T : Table) (t : Turns X) where
+module _ {M H : Type 0} (X : Machine M H) (room : ℕ → Bool) (shows : ℕ → Bool) (why : ℕ → Entry) (T : Table) (t : Turns X) where
   -- what is in progress after, was before
   abbrev pub Back : Traced M → Traced M → Type 0
   Back s s' = (y : ℕ) → X.eget s'.mach y ≡ busy → X.eget s.mach y ≡ busy
 
-  abbrev N : ℕ → Machine (Traced M)
+  abbrev N : ℕ → Machine (Traced M) H
   N cont = noting X room shows why cont
 
   abbrev marked : ℕ → Mark → Traced M → Traced M
@@ -41,21 +41,21 @@ module _ {M : Type 0} (X : Machine M) (room : ℕ → Bool) (shows : ℕ → Boo
   back_then : (a b c : Traced M) → Back a b → Back b c → Back a c
   back_then a b c g h y e = g y (h y e)
 
-  with_back : (es : List Entry) (s : Traced M) (o : Out M) → Comes (λ m'. (y : ℕ) → X.eget m' y ≡ X.eget s.mach y) o → Comes (Back s) (with_entries es o)
+  with_back : (es : List Entry) (s : Traced M) (o : Out M H) → Comes (λ m'. (y : ℕ) → X.eget m' y ≡ X.eget s.mach y) o → Comes (Back s) (with_entries es o)
   unfolding with_entries
   with_back es s _ (comes h) = comes (λ y e. sym (h y) ∙ e)
   with_back es s _ halts = halts
 
-  line_back : (shown : Bool) (e : Entry) (step : M → Out M) → ((m : M) → Comes (λ m'. (y : ℕ) → X.eget m' y ≡ X.eget m y) (step m)) → (s : Traced M) → Comes (Back s) (line room shown e step s)
+  line_back : (shown : Bool) (e : Entry) (step : M → Out M H) → ((m : M) → Comes (λ m'. (y : ℕ) → X.eget m' y ≡ X.eget m y) (step m)) → (s : Traced M) → Comes (Back s) (line X.held room shown e step s)
   unfolding line
   line_back false e step h s = with_back s.entries s (step s.mach) (h s.mach)
   line_back true e step h s = by (room (length s.entries))
     where
-      by : (b : Bool) → Comes (Back s) (elim b [ true ↦ with_entries (s.entries ++ (e ∷ [])) (step s.mach) | false ↦ stuck 17 ])
+      by : (b : Bool) → Comes (Back s) (elim b [ true ↦ with_entries (s.entries ++ (e ∷ [])) (step s.mach) | false ↦ stuck (X.held s.mach) 17 ])
       by true = with_back (s.entries ++ (e ∷ [])) s (step s.mach) (h s.mach)
       by false = halts
 
-  each_back : (f : Traced M → ℕ → Out (Traced M)) → ((s : Traced M) (y : ℕ) → Comes (Back s) (f s y)) → (ys : List ℕ) (s : Traced M) → Comes (Back s) (eeach f ys s)
+  each_back : (f : Traced M → ℕ → Out (Traced M) H) → ((s : Traced M) (y : ℕ) → Comes (Back s) (f s y)) → (ys : List ℕ) (s : Traced M) → Comes (Back s) (eeach f ys s)
   unfolding eeach
   each_back f h [] s = comes (λ y e. e)
   each_back f h (y ∷ ys) s = comes_bind (eeach f ys) (h s y) (λ s' q. comes_map (λ s'' q'. back_then s s' s'' q q') (each_back f h ys s'))
@@ -71,7 +71,7 @@ module _ {M : Type 0} (X : Machine M) (room : ℕ → Bool) (shows : ℕ → Boo
   done_after x s s' q y e = q y (t.t_done x y s'.mach e).1
 
   module _ (x cont : ℕ) where
-    once_back : (w : Traced M → ℕ → Out (Traced M)) → ((s : Traced M) → Comes (Back s) (w s x)) → (b : Bool) (s : Traced M) → Comes (Back s) (once (N cont) T w x b s)
+    once_back : (w : Traced M → ℕ → Out (Traced M) H) → ((s : Traced M) → Comes (Back s) (w s x)) → (b : Bool) (s : Traced M) → Comes (Back s) (once (N cont) T w x b s)
     unfolding once
     once_back w h true s = comes (λ y e. e)
     once_back w h false s = comes_bind (λ s'. wrote (record { mach = X.forwarded x s'.mach; entries = s'.entries })) (h s) (λ s' q. comes (λ y e. q y (sym (t.t_flag x y s'.mach) ∙ e)))
@@ -110,7 +110,7 @@ module _ {M : Type 0} (X : Machine M) (room : ℕ → Bool) (shows : ℕ → Boo
         comes_bind (λ s''. wrote (marked x done s'')) (line_back true (why x) (λ m. X.body m x) (λ m. t.t_body m x) s') (λ s'' q'. comes (done_around x s s'' (back_then (marked x busy s) s' s'' q q')))
     close_back false s s' q = comes (new_around x s s' q)
 
-    module _ (rec : Traced M → ℕ → ℕ → Out (Traced M)) (h : (s : Traced M) (y d : ℕ) → Comes (Back s) (rec s y d)) (s : Traced M) where
+    module _ (rec : Traced M → ℕ → ℕ → Out (Traced M) H) (h : (s : Traced M) (y d : ℕ) → Comes (Back s) (rec s y d)) (s : Traced M) where
       within_back : (b nm : Bool) (ms : List ℕ) → Comes (Back (marked x busy s)) (within (N cont) T rec s x cont b nm ms)
       unfolding within
       within_back true nm ms = each_back (λ s' y. rec s' y (pick nm x cont)) (λ s' y. h s' y (pick nm x cont)) ms (marked x busy s)
@@ -165,11 +165,11 @@ busy_back l x y e = by (ℕ_discrete y x)
     by (yes q) = inl q
     by (no q) = inr (sym (get_or-set_other l x y busy new q) ∙ e)
 
-put_back : {U : Type 0} (L : Lines U) (mk : List ℕ → Piece) (s : Ls U) (l : Line U) → Comes (λ s'. (y : ℕ) → (list_machine L).eget s' y ≡ (list_machine L).eget s y) (put_line mk s l)
+put_back : {U H : Type 0} (L : Lines U H) (mk : List ℕ → Piece) (s : Ls U) (l : Line U H) → Comes (λ s'. (y : ℕ) → (list_machine L).eget s' y ≡ (list_machine L).eget s y) (put_line mk s l)
 put_back L mk s (says u t) = comes (λ y. refl)
-put_back L mk s (cannot e) = halts
+put_back L mk s (cannot h e) = halts
 
-pub list_turns : {U : Type 0} (L : Lines U) → Turns (list_machine L)
+pub list_turns : {U H : Type 0} (L : Lines U H) → Turns (list_machine L)
 list_turns L = record {
   t_busy = λ x y m e. busy_back m.emits x y e;
   t_done = λ x y m e. set_back m.emits x y done done_busy e;

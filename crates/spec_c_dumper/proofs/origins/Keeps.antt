@@ -16,16 +16,16 @@ use Rattle.spec_c_dumper.specs.origins.Claims.{first, next, is_listed}
 use Rattle.spec_c_dumper.specs.origins.Lines.{is_typedef, is_container, Container, outer, inner, Inside}
 
 -- what a line, or a call, comes to, if it is no refusal
-pub data Comes {M : Type 0} (Q : M → Type 0) : Out M → Type 0 where
+pub data Comes {M H : Type 0} (Q : M → Type 0) : Out M H → Type 0 where
   comes : {s : M} → Q s → Comes Q (wrote s)
-  halts : {e : ℕ} → Comes Q (stuck e)
+  halts : {h : H} {e : ℕ} → Comes Q (stuck h e)
 
-pub comes_bind : {M : Type 0} {Q Q' : M → Type 0} {r : Out M} (k : M → Out M) → Comes Q r → ((s : M) → Q s → Comes Q' (k s)) → Comes Q' (obind r k)
+pub comes_bind : {M H : Type 0} {Q Q' : M → Type 0} {r : Out M H} (k : M → Out M H) → Comes Q r → ((s : M) → Q s → Comes Q' (k s)) → Comes Q' (obind r k)
 unfolding obind
 comes_bind k (comes h) f = f _ h
 comes_bind k halts f = halts
 
-pub comes_map : {M : Type 0} {Q Q' : M → Type 0} {r : Out M} → ((s : M) → Q s → Q' s) → Comes Q r → Comes Q' r
+pub comes_map : {M H : Type 0} {Q Q' : M → Type 0} {r : Out M H} → ((s : M) → Q s → Q' s) → Comes Q r → Comes Q' r
 comes_map f (comes h) = comes (f _ h)
 comes_map f halts = halts
 
@@ -33,8 +33,8 @@ zero_no : (n : ℕ) → n ≢ 0 → is_zero n ≡ false
 zero_no zero h = absurd (h refl)
 zero_no (suc n) h = refl
 
-module _ {M : Type 0} (X : Machine M) (room : ℕ → Bool) (shows : ℕ → Bool) (why : ℕ → Entry) (T : Table) (Top : ℕ → Type 0) (R : Traced M → Traced M → Type 0) where
-  abbrev N : ℕ → Machine (Traced M)
+module _ {M H : Type 0} (X : Machine M H) (room : ℕ → Bool) (shows : ℕ → Bool) (why : ℕ → Entry) (T : Table) (Top : ℕ → Type 0) (R : Traced M → Traced M → Type 0) where
+  abbrev N : ℕ → Machine (Traced M) H
   N cont = noting X room shows why cont
 
   -- A relation between the states before and after, that the steps keep. A line is of a type of its kind, inside its container or at the top.
@@ -51,13 +51,13 @@ module _ {M : Type 0} (X : Machine M) (room : ℕ → Bool) (shows : ℕ → Boo
     pub top_body : (x : ℕ) (s : Traced M) → is_comp (T.node x) ≡ true → Top x → Comes (R s) ((N 0).body s x)
 
   module _ (void : T.node 0 ≡ plain) (k : Kept) where
-    each_keeps : (f : Traced M → ℕ → Out (Traced M)) (ys : List ℕ) → ((s : Traced M) (y : ℕ) → Memᴰ y ys → Comes (R s) (f s y)) → (s : Traced M) → Comes (R s) (eeach f ys s)
+    each_keeps : (f : Traced M → ℕ → Out (Traced M) H) (ys : List ℕ) → ((s : Traced M) (y : ℕ) → Memᴰ y ys → Comes (R s) (f s y)) → (s : Traced M) → Comes (R s) (eeach f ys s)
     unfolding eeach
     each_keeps f [] h s = comes (k.r_same s)
     each_keeps f (y ∷ ys) h s = comes_bind (eeach f ys) (h s y (Memᴰ.head refl)) (λ s' q. comes_map (λ s'' q'. k.r_then s s' s'' q q') (each_keeps f ys (λ s'' z m. h s'' z (Memᴰ.tail m)) s'))
 
     -- a state, and then a step from it
-    step_on : (a s : Traced M) (o : Out (Traced M)) → R a s → Comes (R s) o → Comes (R a) o
+    step_on : (a s : Traced M) (o : Out (Traced M) H) → R a s → Comes (R s) o → Comes (R a) o
     step_on a s o q h = comes_map (λ s' q'. k.r_then a s s' q q') h
 
     -- void is no container
@@ -76,17 +76,17 @@ module _ {M : Type 0} (X : Machine M) (room : ℕ → Bool) (shows : ℕ → Boo
     comp_inside : (x y : ℕ) (ms : List ℕ) → T.node x ≡ comp ms → T.named x ≡ true → Top x → Memᴰ y ms → Inside T Top x y
     comp_inside x y ms e q tp m = record { some = not_void x (comp ms) e (λ (q : plain ≡ comp ms). let z : ◌≡◌ {A = ℕ} 0 1 = cc in omega arith); contained = ap (λ (n : Node). is_container n (T.named x)) e ∙ q; within = outer x tp; leads = first y (member x y (comp ms) e m) }
 
-    once_keeps : (cont x : ℕ) (w : Traced M → ℕ → Out (Traced M)) → ((s : Traced M) → Comes (R s) (w s x)) → (b : Bool) (s : Traced M) → Comes (R s) (once (N cont) T w x b s)
+    once_keeps : (cont x : ℕ) (w : Traced M → ℕ → Out (Traced M) H) → ((s : Traced M) → Comes (R s) (w s x)) → (b : Bool) (s : Traced M) → Comes (R s) (once (N cont) T w x b s)
     unfolding once
     once_keeps cont x w h true s = comes (k.r_same s)
     once_keeps cont x w h false s =
         comes_bind (λ s'. wrote (record { mach = X.forwarded x s'.mach; entries = s'.entries })) (h s) (λ s' q. comes (k.r_then s s' (record { mach = X.forwarded x s'.mach; entries = s'.entries }) q (k.r_flag x s')))
 
-    marks_after : (x : ℕ) (m : Mark) (s s' : Traced M) → R s s' → Comes (R s) (wrote (marked x m s'))
+    marks_after : (x : ℕ) (m : Mark) (s s' : Traced M) → R s s' → Comes {H = H} (R s) (wrote (marked x m s'))
     marks_after x m s s' q = comes (k.r_then s s' (marked x m s') q (k.r_mark m x s'))
 
     -- a typedef: its target inside it, its line, its mark
-    tdef_keeps : (cont x t : ℕ) (s : Traced M) (o : Out (Traced M)) → Comes (R (marked x busy s)) o → ((u : Traced M) → Comes (R u) ((N cont).alias_line u x))
+    tdef_keeps : (cont x t : ℕ) (s : Traced M) (o : Out (Traced M) H) → Comes (R (marked x busy s)) o → ((u : Traced M) → Comes (R u) ((N cont).alias_line u x))
         → Comes (R s) (obind o (λ s'. obind (once (N cont) T (N cont).alias_line x (X.has_fwd s'.mach x) s') (λ s''. wrote (marked x done s''))))
     tdef_keeps cont x t s o h w =
         comes_bind (λ s'. obind (once (N cont) T (N cont).alias_line x (X.has_fwd s'.mach x) s') (λ s''. wrote (marked x done s''))) (step_on s (marked x busy s) o (k.r_mark busy x s) h) (λ s' q.
@@ -121,7 +121,7 @@ module _ {M : Type 0} (X : Machine M) (room : ℕ → Bool) (shows : ℕ → Boo
       down : (nd : Node) → T.node x ≡ nd → (y : ℕ) → is_container nd (T.named x) ≡ false → Memᴰ y (kids nd) → Inside T Top cont y
       down nd e y q m = record { some = c.some; contained = c.contained; within = c.within; leads = next x y c.leads (ap (λ (n : Node). is_container n (T.named x)) e ∙ q) (member x y nd e m) }
 
-      module _ (rec : Traced M → ℕ → ℕ → Out (Traced M)) (h : (s : Traced M) (y d : ℕ) → Inside T Top d y → Comes (R s) (rec s y d)) (s : Traced M) where
+      module _ (rec : Traced M → ℕ → ℕ → Out (Traced M) H) (h : (s : Traced M) (y d : ℕ) → Inside T Top d y → Comes (R s) (rec s y d)) (s : Traced M) where
         -- a nameless composite has its members in the same container, a named one is mentioned
         within_keeps : (nm : Bool) (ms : List ℕ) → T.named x ≡ nm → T.node x ≡ comp ms → Comes (R s) (within (N cont) T rec s x cont (not nm) nm ms)
         unfolding within
@@ -159,7 +159,7 @@ module _ {M : Type 0} (X : Machine M) (room : ℕ → Bool) (shows : ℕ → Boo
     emit_keeps (suc n) s x cont c = look_keeps cont x c (λ s' y d. emit_traced X room shows why T n s' y d) (λ s' y d q. emit_keeps n s' y d q) s (X.eget s.mach x)
 
     -- ---- at the top
-    module _ (x : ℕ) (tp : Top x) (rec : Traced M → ℕ → ℕ → Out (Traced M)) (h : (s : Traced M) (y d : ℕ) → Inside T Top d y → Comes (R s) (rec s y d)) (s : Traced M) where
+    module _ (x : ℕ) (tp : Top x) (rec : Traced M → ℕ → ℕ → Out (Traced M) H) (h : (s : Traced M) (y d : ℕ) → Inside T Top d y → Comes (R s) (rec s y d)) (s : Traced M) where
       leaf_top : is_leaf (T.node x) ≡ true → (b : Bool) → Comes (R s) (leaf (N 0) T b x s)
       unfolding leaf
       leaf_top i true = comes_bind (λ s'. wrote (marked x done s')) (k.top_leaf x s i tp) (λ s' q. marks_after x done s s' q)

@@ -38,88 +38,88 @@ use Rattle.spec_c_dumper.proofs.needs.Bodies.{text_in}
 abbrev pub Idle : {U : Type 0} → Ls U → Type 0
 Idle s = (y : ℕ) → get_or s.emits y new ≡ busy → ⊥
 
-comes_both : {M : Type 0} {P Q : M → Type 0} {o : Out M} → Comes P o → Comes Q o → Comes (λ s. P s × Q s) o
+comes_both : {M H : Type 0} {P Q : M → Type 0} {o : Out M H} → Comes P o → Comes Q o → Comes (λ s. P s × Q s) o
 comes_both (comes p) (comes q) = comes (p, q)
 comes_both halts q = halts
 
 -- ---- texts
 
 abbrev names_in : {U : Type 0} → Said U → U
-names_in (said u t) = u
+names_in (said u t m) = u
 
 -- what ends in a line's end
 module _ {U : Type 0} (N : Naming U) (B : Btf) where
-  ended : (x : Said U) (u' : U) (t : List ℕ) → next x (line_end N B) ≡ said u' (whole t) → Ended t
+  ended : (x : Said U) (u' : U) (t : List ℕ) (k : List U) → next x (line_end N B) ≡ said u' (whole t) k → Ended t
   unfolding next put after join
-  ended (said u (whole a)) u' t e = record { front = a; is = sym (ap text_in e) }
-  ended (said u (cut a c)) u' t e = absurd (let z : ◌≡◌ {A = ℕ} 0 1 = cc in omega arith)
+  ended (said u (whole a) m) u' t k e = record { front = a; is = sym (ap text_in e) }
+  ended (said u (cut a c) m) u' t k e = absurd (let z : ◌≡◌ {A = ℕ} 0 1 = cc in omega arith)
 
-  ends : (v : Writer U) (u u' : U) (t : List ℕ) → (v ⨾ line_end N B) u ≡ said u' (whole t) → Ended t
+  ends : (v : Writer U) (u u' : U) (t : List ℕ) (k : List U) → (v ⨾ line_end N B) u ≡ said u' (whole t) k → Ended t
   unfolding ◌⨾◌
-  ends v u u' t e = ended (v u) u' t e
+  ends v u u' t k e = ended (v u) u' t k e
 
   -- the forward line or typedef line of a name that is not the builtin one, or of the builtin one
-  shown_ends : (name : Name) (v : Writer U) → builtin name ≡ false → (u u' : U) (t : List ℕ) → shown N B name v u ≡ said u' (whole t) → Ended t
+  shown_ends : (name : Name) (v : Writer U) → builtin name ≡ false → (u u' : U) (t : List ℕ) (k : List U) → shown N B name v u ≡ said u' (whole t) k → Ended t
   unfolding shown
-  shown_ends name v b u u' t e = ends v u u' t (sym (ap (λ (k : Bool). elim k as (λ (y : Bool). Writer U) [ true ↦ put [] | false ↦ v ⨾ line_end N B ] u) b) ∙ e)
+  shown_ends name v b u u' t k e = ends v u u' t k (sym (ap (λ (c : Bool). elim c as (λ (y : Bool). Writer U) [ true ↦ put [] | false ↦ v ⨾ line_end N B ] u) b) ∙ e)
 
-  shown_none : (name : Name) (v : Writer U) → builtin name ≡ true → (u u' : U) (t : List ℕ) → shown N B name v u ≡ said u' (whole t) → (t ≡ []) × (u ≡ u')
+  shown_none : (name : Name) (v : Writer U) → builtin name ≡ true → (u u' : U) (t : List ℕ) (k : List U) → shown N B name v u ≡ said u' (whole t) k → (t ≡ []) × (u ≡ u')
   unfolding shown put
-  shown_none name v b u u' t e =
-      let q : said u (whole []) ≡ said u' (whole t) = sym (ap (λ (k : Bool). elim k as (λ (y : Bool). Writer U) [ true ↦ put [] | false ↦ v ⨾ line_end N B ] u) b) ∙ e in
+  shown_none name v b u u' t k e =
+      let q : said u (whole []) [] ≡ said u' (whole t) k = sym (ap (λ (c : Bool). elim c as (λ (y : Bool). Writer U) [ true ↦ put [] | false ↦ v ⨾ line_end N B ] u) b) ∙ e in
       (sym (ap text_in q), ap names_in q)
 
-  module _ (id cause : ℕ) (u u' : U) (t : List ℕ) where
-    forward_ends : (ty : BtfType) → is_forward (node_of ty) cause ≡ true → builtin (name_of ty) ≡ false → forward N B id ty u ≡ said u' (whole t) → Ended t
+  module _ (id cause : ℕ) (u u' : U) (t : List ℕ) (k : List U) where
+    forward_ends : (ty : BtfType) → is_forward (node_of ty) cause ≡ true → builtin (name_of ty) ≡ false → forward N B id ty u ≡ said u' (whole t) k → Ended t
     unfolding forward
     forward_ends Void f b e = absurd (true≢false (sym f))
     forward_ends (Int n w) f b e = absurd (true≢false (sym f))
     forward_ends (Ptr y) f b e = absurd (true≢false (sym f))
-    forward_ends (Array y k) f b e = absurd (true≢false (sym f))
-    forward_ends (Composite s n z ms) f b e = shown_ends n (emit_composite_fwd N B id s n) b u u' t e
+    forward_ends (Array y c) f b e = absurd (true≢false (sym f))
+    forward_ends (Composite s n z ms) f b e = shown_ends n (emit_composite_fwd N B id s n) b u u' t k e
     forward_ends (Enum s n z vs) f b e = absurd (true≢false (sym f))
     forward_ends (Enum64 s n z vs) f b e = absurd (true≢false (sym f))
     forward_ends (Fwd v n) f b e = absurd (true≢false (sym f))
-    forward_ends (Typedef n y) f b e = shown_ends n (emit_typedef_def N B id n y) b u u' t e
+    forward_ends (Typedef n y) f b e = shown_ends n (emit_typedef_def N B id n y) b u u' t k e
     forward_ends (Mod q y) f b e = absurd (true≢false (sym f))
     forward_ends (Func n) f b e = absurd (true≢false (sym f))
     forward_ends (Var n) f b e = absurd (true≢false (sym f))
     forward_ends (Datasec n) f b e = absurd (true≢false (sym f))
     forward_ends (FuncProto r ps) f b e = absurd (true≢false (sym f))
     forward_ends (Float n z) f b e = absurd (true≢false (sym f))
-    forward_ends (DeclTag a n y k) f b e = absurd (true≢false (sym f))
+    forward_ends (DeclTag a n y c) f b e = absurd (true≢false (sym f))
     forward_ends (TypeTag a n y) f b e = absurd (true≢false (sym f))
 
-    forward_none : (ty : BtfType) → builtin (name_of ty) ≡ true → forward N B id ty u ≡ said u' (whole t) → (t ≡ []) × (u ≡ u')
+    forward_none : (ty : BtfType) → builtin (name_of ty) ≡ true → forward N B id ty u ≡ said u' (whole t) k → (t ≡ []) × (u ≡ u')
     unfolding forward put
     forward_none Void b e = (sym (ap text_in e), ap names_in e)
     forward_none (Int n w) b e = (sym (ap text_in e), ap names_in e)
     forward_none (Ptr y) b e = (sym (ap text_in e), ap names_in e)
-    forward_none (Array y k) b e = (sym (ap text_in e), ap names_in e)
-    forward_none (Composite s n z ms) b e = shown_none n (emit_composite_fwd N B id s n) b u u' t e
+    forward_none (Array y c) b e = (sym (ap text_in e), ap names_in e)
+    forward_none (Composite s n z ms) b e = shown_none n (emit_composite_fwd N B id s n) b u u' t k e
     forward_none (Enum s n z vs) b e = (sym (ap text_in e), ap names_in e)
     forward_none (Enum64 s n z vs) b e = (sym (ap text_in e), ap names_in e)
     forward_none (Fwd v n) b e = (sym (ap text_in e), ap names_in e)
-    forward_none (Typedef n y) b e = shown_none n (emit_typedef_def N B id n y) b u u' t e
+    forward_none (Typedef n y) b e = shown_none n (emit_typedef_def N B id n y) b u u' t k e
     forward_none (Mod q y) b e = (sym (ap text_in e), ap names_in e)
     forward_none (Func n) b e = (sym (ap text_in e), ap names_in e)
     forward_none (Var n) b e = (sym (ap text_in e), ap names_in e)
     forward_none (Datasec n) b e = (sym (ap text_in e), ap names_in e)
     forward_none (FuncProto r ps) b e = (sym (ap text_in e), ap names_in e)
     forward_none (Float n z) b e = (sym (ap text_in e), ap names_in e)
-    forward_none (DeclTag a n y k) b e = (sym (ap text_in e), ap names_in e)
+    forward_none (DeclTag a n y c) b e = (sym (ap text_in e), ap names_in e)
     forward_none (TypeTag a n y) b e = (sym (ap text_in e), ap names_in e)
 
-    definition_ends : (ty : BtfType) → (is_comp (node_of ty) || is_leaf (node_of ty)) ≡ true → definition N B id ty u ≡ said u' (whole t) → Ended t
+    definition_ends : (ty : BtfType) → (is_comp (node_of ty) || is_leaf (node_of ty)) ≡ true → definition N B id ty u ≡ said u' (whole t) k → Ended t
     unfolding definition
     definition_ends Void f e = absurd (true≢false (sym f))
     definition_ends (Int n w) f e = absurd (true≢false (sym f))
     definition_ends (Ptr y) f e = absurd (true≢false (sym f))
-    definition_ends (Array y k) f e = absurd (true≢false (sym f))
-    definition_ends (Composite s n z ms) f e = ends (emit_composite_def N B 512 id s n z ms 0) u u' t e
-    definition_ends (Enum s n z vs) f e = ends (emit_enum_def N B (enum_value s) id n vs 0) u u' t e
-    definition_ends (Enum64 s n z vs) f e = ends (emit_enum_def N B (enum64_value s) id n vs 0) u u' t e
-    definition_ends (Fwd v n) f e = ends (emit_fwd_def N B id v n) u u' t e
+    definition_ends (Array y c) f e = absurd (true≢false (sym f))
+    definition_ends (Composite s n z ms) f e = ends (emit_composite_def N B 512 id s n z ms 0) u u' t k e
+    definition_ends (Enum s n z vs) f e = ends (emit_enum_def N B (enum_value s) id n vs 0) u u' t k e
+    definition_ends (Enum64 s n z vs) f e = ends (emit_enum_def N B (enum64_value s) id n vs 0) u u' t k e
+    definition_ends (Fwd v n) f e = ends (emit_fwd_def N B id v n) u u' t k e
     definition_ends (Typedef n y) f e = absurd (true≢false (sym f))
     definition_ends (Mod q y) f e = absurd (true≢false (sym f))
     definition_ends (Func n) f e = absurd (true≢false (sym f))
@@ -127,7 +127,7 @@ module _ {U : Type 0} (N : Naming U) (B : Btf) where
     definition_ends (Datasec n) f e = absurd (true≢false (sym f))
     definition_ends (FuncProto r ps) f e = absurd (true≢false (sym f))
     definition_ends (Float n z) f e = absurd (true≢false (sym f))
-    definition_ends (DeclTag a n y k) f e = absurd (true≢false (sym f))
+    definition_ends (DeclTag a n y c) f e = absurd (true≢false (sym f))
     definition_ends (TypeTag a n y) f e = absurd (true≢false (sym f))
 
 -- ---- the kinds
@@ -174,33 +174,34 @@ body_line (comp ts) c e = refl
 
 -- ---- one more line
 module _ {U : Type 0} (N : Naming U) (B : Btf) where
-  abbrev step_of : (List ℕ → Piece) → Writer U → Ls (Known U) → Out (Ls (Known U))
+  abbrev step_of : (List ℕ → Piece) → Writer U → Ls (Known U) → Out (Ls (Known U)) U
   step_of mk v m = put_line mk m (line_of m.room m.known.text_len (v m.known.names))
 
   -- what a line adds to the pieces
   pub record Put (mk : List ℕ → Piece) (w : Writer U) (s s' : Ls (Known U)) : Type 0 where
     pub text : List ℕ
     pub pieces_are : s'.pieces ≡ s.pieces ++ (mk text ∷ [])
-    pub is : w s.known.names ≡ said s'.known.names (whole text)
+    pub held : List U
+    pub is : w s.known.names ≡ said s'.known.names (whole text) held
 
   module _ (mk : List ℕ → Piece) (w : Writer U) (s : Ls (Known U)) where
-    fitting_put : (len : ℕ) (u : U) (x : Text) → w s.known.names ≡ said u x → Comes (Put mk w s) (put_line mk s (fitting len u x))
+    fitting_put : (len : ℕ) (u : U) (x : Text) (m : List U) → w s.known.names ≡ said u x m → Comes (Put mk w s) (put_line mk s (fitting len u x))
     unfolding fitting
-    fitting_put len u (whole a) e = comes (record { text = a; pieces_are = refl; is = e })
-    fitting_put len u (cut a c) e = halts
+    fitting_put len u (whole a) m e = comes (record { text = a; pieces_are = refl; held = m; is = e })
+    fitting_put len u (cut a c) m e = halts
 
-    room_put : (len : ℕ) (u : U) (x : Text) → w s.known.names ≡ said u x → (b : Bool) → Comes (Put mk w s) (put_line mk s (elim b [ true ↦ fitting len u x | false ↦ cannot 17 ]))
-    room_put len u x e true = fitting_put len u x e
-    room_put len u x e false = halts
+    room_put : (len : ℕ) (u : U) (x : Text) (m : List U) → w s.known.names ≡ said u x m → (h : U) (b : Bool) → Comes (Put mk w s) (put_line mk s (elim b [ true ↦ fitting len u x | false ↦ cannot h 17 ]))
+    room_put len u x m e h true = fitting_put len u x m e
+    room_put len u x m e h false = halts
 
     said_put : (room len : ℕ) (x : Said U) → w s.known.names ≡ x → Comes (Put mk w s) (put_line mk s (line_of room len x))
     unfolding line_of
-    said_put room len (said u x) e = room_put len u x e (leb (len + length (bytes x)) (smaller room 1073741824))
+    said_put room len (said u x m) e = room_put len u x m e _ (leb (len + length (bytes x)) (smaller room 1073741824))
 
     line_put : Comes (Put mk w s) (put_line mk s (line_of s.room s.known.text_len (w s.known.names)))
     line_put = said_put s.room s.known.text_len (w s.known.names) refl
 
-  with_comes : {M : Type 0} {Q : M → Type 0} (es : List Entry) (o : Out M) → Comes Q o → Comes (λ (s : Traced M). (s.entries ≡ es) × Q s.mach) (with_entries es o)
+  with_comes : {M H : Type 0} {Q : M → Type 0} (es : List Entry) (o : Out M H) → Comes Q o → Comes (λ (s : Traced M). (s.entries ≡ es) × Q s.mach) (with_entries es o)
   unfolding with_entries
   with_comes es _ (comes h) = comes (refl, h)
   with_comes es _ halts = halts
@@ -240,7 +241,7 @@ module _ {U : Type 0} (N : Naming U) (B : Btf) where
       e = entry x c l
 
       -- the entry and its piece
-      grew_line : (mk : List ℕ → Piece) (v : Writer U) → v ≡ writer_of N B e → ((t : List ℕ) → piece_of N B e t ≡ mk t) → ((u u' : U) (t : List ℕ) → v u ≡ said u' (whole t) → Ended t)
+      grew_line : (mk : List ℕ → Piece) (v : Writer U) → v ≡ writer_of N B e → ((t : List ℕ) → piece_of N B e t ≡ mk t) → ((u u' : U) (t : List ℕ) (k : List U) → v u ≡ said u' (whole t) k → Ended t)
           → (s' : Traced (Ls (Known U))) → (s'.entries ≡ s.entries ++ (e ∷ [])) × Put mk v s.mach s'.mach → Grew s s'
       grew_line mk v i k f s' h =
           let p : Put mk v s.mach s'.mach = h.1 in
@@ -250,16 +251,16 @@ module _ {U : Type 0} (N : Naming U) (B : Btf) where
             entries_are = h.0;
             pieces_are = p.pieces_are ∙ ap (λ (q : Piece). s.mach.pieces ++ (q ∷ [])) (sym (k p.text));
             pairs = more s.mach.known.names s'.mach.known.names s'.mach.known.names e p.text [] [] w
-                (record { is = ap (λ (r : Writer U). r s.mach.known.names) (sym i) ∙ p.is; ends = f s.mach.known.names s'.mach.known.names p.text p.is }) (none s'.mach.known.names);
+                (record { held = p.held; is = ap (λ (r : Writer U). r s.mach.known.names) (sym i) ∙ p.is; ends = f s.mach.known.names s'.mach.known.names p.text p.held p.is }) (none s'.mach.known.names);
           }
 
       -- a line that is an entry
-      shown_line : (mk : List ℕ → Piece) (v : Writer U) → v ≡ writer_of N B e → ((t : List ℕ) → piece_of N B e t ≡ mk t) → ((u u' : U) (t : List ℕ) → v u ≡ said u' (whole t) → Ended t)
-          → Comes (Grew s) (line room true e (λ m. put_line mk m (line_of m.room m.known.text_len (v m.known.names))) s)
+      shown_line : (mk : List ℕ → Piece) (v : Writer U) → v ≡ writer_of N B e → ((t : List ℕ) → piece_of N B e t ≡ mk t) → ((u u' : U) (t : List ℕ) (k : List U) → v u ≡ said u' (whole t) k → Ended t)
+          → Comes (Grew s) (line (λ m. m.known.names) room true e (λ m. put_line mk m (line_of m.room m.known.text_len (v m.known.names))) s)
       unfolding line
       shown_line mk v i k f = by (room (length s.entries))
         where
-          by : (b : Bool) → Comes (Grew s) (elim b [ true ↦ with_entries (s.entries ++ (e ∷ [])) (step_of mk v s.mach) | false ↦ stuck 17 ])
+          by : (b : Bool) → Comes (Grew s) (elim b [ true ↦ with_entries (s.entries ++ (e ∷ [])) (step_of mk v s.mach) | false ↦ stuck s.mach.known.names 17 ])
           by true = comes_map (grew_line mk v i k f) (with_comes (s.entries ++ (e ∷ [])) (step_of mk v s.mach) (line_put mk v s.mach))
           by false = halts
 
@@ -267,7 +268,7 @@ module _ {U : Type 0} (N : Naming U) (B : Btf) where
       grew_blank : builtin (name_of ty) ≡ true → (s' : Traced (Ls (Known U))) → (s'.entries ≡ s.entries) × Put other (forward N B x ty) s.mach s'.mach → Grew s s'
       grew_blank b s' h =
           let p : Put other (forward N B x ty) s.mach s'.mach = h.1 in
-          let z : (p.text ≡ []) × (s.mach.known.names ≡ s'.mach.known.names) = forward_none N B x c s.mach.known.names s'.mach.known.names p.text ty b p.is in
+          let z : (p.text ≡ []) × (s.mach.known.names ≡ s'.mach.known.names) = forward_none N B x c s.mach.known.names s'.mach.known.names p.text p.held ty b p.is in
           record {
             entries = [];
             pieces = other [] ∷ [];
@@ -282,20 +283,20 @@ module _ {U : Type 0} (N : Naming U) (B : Btf) where
       as_other : piece_other → (t : List ℕ) → piece_of N B e t ≡ other t
       as_other q t = ap (λ (b : Bool). elim b as (λ (y : Bool). Piece) [ true ↦ defines x t | false ↦ other t ]) q
 
-      forward_line : is_forward (node_of ty) c ≡ true → piece_other → Comes (Grew s) (line room (shows_in B x) e (λ m. (machine_by N B).fwd_line m x) s)
+      forward_line : is_forward (node_of ty) c ≡ true → piece_other → Comes (Grew s) (line (λ m. m.known.names) room (shows_in B x) e (λ m. (machine_by N B).fwd_line m x) s)
       unfolding line
       forward_line f q = by (builtin (name_of ty)) refl
         where
-          by : (b : Bool) → builtin (name_of ty) ≡ b → Comes (Grew s) (line room (not b) e (step_of other (forward N B x ty)) s)
+          by : (b : Bool) → builtin (name_of ty) ≡ b → Comes (Grew s) (line (λ m. m.known.names) room (not b) e (step_of other (forward N B x ty)) s)
           by true i = comes_map (grew_blank i) (with_comes s.entries (step_of other (forward N B x ty) s.mach) (line_put other (forward N B x ty) s.mach))
           by false i = shown_line other (forward N B x ty) (sym (ap (λ (b : Bool). elim b as (λ (y : Bool). Writer U) [ true ↦ forward N B x ty | false ↦ definition N B x ty ]) f)) (as_other q)
-              (λ u u' t h. forward_ends N B x c u u' t ty f i h)
+              (λ u u' t m h. forward_ends N B x c u u' t m ty f i h)
 
       definition_line : (mk : List ℕ → Piece) → is_forward (node_of ty) c ≡ false → (is_comp (node_of ty) || is_leaf (node_of ty)) ≡ true → ((t : List ℕ) → piece_of N B e t ≡ mk t)
-          → Comes (Grew s) (line room true e (λ m. put_line mk m (line_of m.room m.known.text_len (definition N B x ty m.known.names))) s)
+          → Comes (Grew s) (line (λ m. m.known.names) room true e (λ m. put_line mk m (line_of m.room m.known.text_len (definition N B x ty m.known.names))) s)
       definition_line mk f i k =
           shown_line mk (definition N B x ty) (sym (ap (λ (b : Bool). elim b as (λ (y : Bool). Writer U) [ true ↦ forward N B x ty | false ↦ definition N B x ty ]) f)) k
-          (λ u u' t h. definition_ends N B x c u u' t ty i h)
+          (λ u u' t m h. definition_ends N B x c u u' t m ty i h)
 
 -- ---- the lines of a request. led: the notes of its ordering
 module _ {U : Type 0} (N : Naming U) (B : Btf) (void : (table_of B).node 0 ≡ plain) (room : ℕ → Bool) (req : ℕ) (leaders : List (ℕ × ℕ)) (all_led_to : (p : ℕ × ℕ) → Memᴰ p leaders → LedTo (table_of B) req p.0 p.1) where
@@ -327,7 +328,7 @@ module _ {U : Type 0} (N : Naming U) (B : Btf) (void : (table_of B).node 0 ≡ p
     fwd_grew : (cont : ℕ) → is_comp nd ≡ true → Inside T Top cont x → Comes (Grew N B Why s) ((noting (machine_by N B) room (shows_in B) why cont).fwd_line s x)
     fwd_grew cont i c = forward_line N B Why room x 2 cont (forwarded x cont c) s (forward_comp nd i) (ap (λ (b : Bool). b && false) i)
 
-    alias_by : (c l : ℕ) → is_typedef nd ≡ true → Why (entry x c l) → Comes (Grew N B Why s) (line room (shows_in B x) (entry x c l) (λ m. (machine_by N B).alias_line m x) s)
+    alias_by : (c l : ℕ) → is_typedef nd ≡ true → Why (entry x c l) → Comes (Grew N B Why s) (line (λ m. m.known.names) room (shows_in B x) (entry x c l) (λ m. (machine_by N B).alias_line m x) s)
     alias_by c l i w = let q = tdef_line nd c i in forward_line N B Why room x c l w s q.0 (ap (λ (b : Bool). b && not (eqb c 2)) q.1)
 
     alias_grew : (cont : ℕ) → is_typedef nd ≡ true → Inside T Top cont x → Comes (Grew N B Why s) ((noting (machine_by N B) room (shows_in B) why cont).alias_line s x)
@@ -337,9 +338,9 @@ module _ {U : Type 0} (N : Naming U) (B : Btf) (void : (table_of B).node 0 ≡ p
 
     alias_top : is_typedef nd ≡ true → Top x → Comes (Grew N B Why s) ((noting (machine_by N B) room (shows_in B) why 0).alias_line s x)
     unfolding cause_at
-    alias_top i m = listed_by (λ (e : Entry). Comes (Grew N B Why s) (line room (shows_in B x) e (λ m'. (machine_by N B).alias_line m' x) s)) x m (alias_by 0 x i) (alias_by 1 (leader_of req leaders x) i)
+    alias_top i m = listed_by (λ (e : Entry). Comes (Grew N B Why s) (line (λ m. m.known.names) room (shows_in B x) e (λ m'. (machine_by N B).alias_line m' x) s)) x m (alias_by 0 x i) (alias_by 1 (leader_of req leaders x) i)
 
-    leaf_by : (c l : ℕ) → is_leaf nd ≡ true → Why (entry x c l) → Comes (Grew N B Why s) (line room true (entry x c l) (λ m. (machine_by N B).leaf_line m x) s)
+    leaf_by : (c l : ℕ) → is_leaf nd ≡ true → Why (entry x c l) → Comes (Grew N B Why s) (line (λ m. m.known.names) room true (entry x c l) (λ m. (machine_by N B).leaf_line m x) s)
     leaf_by c l i w =
         let q = leaf_line nd c i in
         definition_line N B Why room x c l w s other q.0 (or_right (is_comp nd) (is_leaf nd) i) (as_other N B Why room x c l w s (ap (λ (b : Bool). b && not (eqb c 2)) q.1))
@@ -351,15 +352,15 @@ module _ {U : Type 0} (N : Naming U) (B : Btf) (void : (table_of B).node 0 ≡ p
 
     leaf_top : is_leaf nd ≡ true → Top x → Comes (Grew N B Why s) ((noting (machine_by N B) room (shows_in B) why 0).leaf_line s x)
     unfolding cause_at
-    leaf_top i m = listed_by (λ (e : Entry). Comes (Grew N B Why s) (line room true e (λ m'. (machine_by N B).leaf_line m' x) s)) x m (leaf_by 0 x i) (leaf_by 1 (leader_of req leaders x) i)
+    leaf_top i m = listed_by (λ (e : Entry). Comes (Grew N B Why s) (line (λ m. m.known.names) room true e (λ m'. (machine_by N B).leaf_line m' x) s)) x m (leaf_by 0 x i) (leaf_by 1 (leader_of req leaders x) i)
 
-    body_by : (c l : ℕ) → eqb c 2 ≡ false → is_comp nd ≡ true → Why (entry x c l) → Comes (Grew N B Why s) (line room true (entry x c l) (λ m. (machine_by N B).body m x) s)
+    body_by : (c l : ℕ) → eqb c 2 ≡ false → is_comp nd ≡ true → Why (entry x c l) → Comes (Grew N B Why s) (line (λ m. m.known.names) room true (entry x c l) (λ m. (machine_by N B).body m x) s)
     body_by c l z i w =
         definition_line N B Why room x c l w s (defines x) (body_line nd c i ∙ z) (ap (λ (b : Bool). b || is_leaf nd) i)
         (λ t. ap (λ (b : Bool). elim (b && not (eqb c 2)) as (λ (y : Bool). Piece) [ true ↦ defines x t | false ↦ other t ]) i ∙ ap (λ (b : Bool). elim (not b) as (λ (y : Bool). Piece) [ true ↦ defines x t | false ↦ other t ]) z)
 
-    body_top : is_comp nd ≡ true → Top x → Comes (Grew N B Why s) (line room true (why x) (λ m. (machine_by N B).body m x) s)
-    body_top i m = listed_by (λ (e : Entry). Comes (Grew N B Why s) (line room true e (λ m'. (machine_by N B).body m' x) s)) x m (body_by 0 x refl i) (body_by 1 (leader_of req leaders x) refl i)
+    body_top : is_comp nd ≡ true → Top x → Comes (Grew N B Why s) (line (λ m. m.known.names) room true (why x) (λ m. (machine_by N B).body m x) s)
+    body_top i m = listed_by (λ (e : Entry). Comes (Grew N B Why s) (line (λ m. m.known.names) room true e (λ m'. (machine_by N B).body m' x) s)) x m (body_by 0 x refl i) (body_by 1 (leader_of req leaders x) refl i)
 
   kept : Kept (machine_by N B) room (shows_in B) why T Top (Grew N B Why)
   kept = record {
@@ -376,7 +377,7 @@ module _ {U : Type 0} (N : Naming U) (B : Btf) (void : (table_of B).node 0 ≡ p
   }
 
   -- the listed ids, where nothing is in progress
-  abbrev run : Traced (Ls (Known U)) → ℕ → Out (Traced (Ls (Known U)))
+  abbrev run : Traced (Ls (Known U)) → ℕ → Out (Traced (Ls (Known U))) U
   run m y = emit_traced (machine_by N B) room (shows_in B) why T 512 m y 0
 
   kind_of : (x : ℕ) → Top x → is_listed (T.node x) ≡ true
@@ -396,7 +397,7 @@ module _ {U : Type 0} (N : Naming U) (B : Btf) (void : (table_of B).node 0 ≡ p
 
 -- ---- requests, with a list of entries that has room for all
 module _ {U : Type 0} (N : Naming U) (B : Btf) (void : (table_of B).node 0 ≡ plain) (size : ℕ) where
-  abbrev X : Machine (Ls (Known U))
+  abbrev X : Machine (Ls (Known U)) U
   X = machine_by N B
 
   abbrev mach_of : Explaining (Ls (Known U)) → Ls (Known U)
@@ -417,16 +418,16 @@ module _ {U : Type 0} (N : Naming U) (B : Btf) (void : (table_of B).node 0 ≡ p
       pub beside : s.state.olist ≡ listed_ids s.leaders
       pub all_led_to : AllLedTo (table_of B) x s
 
-    abbrev traced : WithLeaders (Ls (Known U)) → Out (Traced (Ls (Known U)))
+    abbrev traced : WithLeaders (Ls (Known U)) → Out (Traced (Ls (Known U))) U
     traced s = each_listed X (table_of B) always (shows_in B) (listed_entry x s.leaders) (X.store.list s.state) (record { mach = s.state; entries = t.entries })
 
     -- no line is refused by 0
-    traced_not : (s : WithLeaders (Ls (Known U))) → traced s ≡ stuck 0 → ⊥
-    traced_not s e =
+    traced_not : (s : WithLeaders (Ls (Known U))) → (h : U) → traced s ≡ stuck h 0 → ⊥
+    traced_not s h e =
         (each_lined (Numbered X) (λ r m y. emit_traced X r (shows_in B) (listed_entry x s.leaders) (table_of B) 512 m y 0) (λ m y. emit X (table_of B) 512 m y 0) (λ m y. emit_lined X (shows_in B) (listed_entry x s.leaders) (table_of B) 512 m y 0)
-        (X.store.list s.state) (record { mach = s.state; entries = t.entries })).numbered (machine_numbered N B) e
+        (X.store.list s.state) (record { mach = s.state; entries = t.entries })).numbered (machine_numbered N B) h e
 
-    emitted_went : (s : WithLeaders (Ls (Known U))) → Before s → leaders_for N B size t.answer.sess x ≡ s.leaders → (o : Out (Traced (Ls (Known U)))) → (o ≡ stuck 0 → ⊥)
+    emitted_went : (s : WithLeaders (Ls (Known U))) → Before s → leaders_for N B size t.answer.sess x ≡ s.leaders → (o : Out (Traced (Ls (Known U))) U) → ((h : U) → o ≡ stuck h 0 → ⊥)
         → Comes (λ s'. Grew N B (Caused (table_of B) x s.leaders) (record { mach = s.state; entries = t.entries }) s' × Idle s'.mach) o → Went x t (emitted_traced X (table_of B) always (shows_in B) t x o)
     unfolding emitted_traced dropped shut
     emitted_went s h l (wrote m) z (comes q) =
@@ -434,7 +435,7 @@ module _ {U : Type 0} (N : Naming U) (B : Btf) (void : (table_of B).node 0 ≡ p
         went g.entries g.pieces refl refl g.entries_are (g.pieces_are ∙ ap (λ (ps : List Piece). ps ++ g.pieces) h.same_pieces)
         (subst (λ (k : List (ℕ × ℕ)). Pairs N B (Caused (table_of B) x k) (mach_of t).known.names g.entries g.pieces m.mach.known.names) (sym l)
         (subst (λ (u : U). Pairs N B (Caused (table_of B) x s.leaders) u g.entries g.pieces m.mach.known.names) h.same_names g.pairs)) q.1
-    emitted_went s h l (stuck e) z halts = left (λ q. z (ap stuck q)) refl refl refl i
+    emitted_went s h l (stuck m e) z halts = left (λ q. z m (ap (stuck m) q)) refl refl refl i
 
     ordered_went : (o : Res (WithLeaders (Ls (Known U)))) → leaders_for N B size t.answer.sess x ≡ notes_of o → Holds Before o → NotNone o → Went x t (ordered_traced X (table_of B) always (shows_in B) t x o)
     unfolding ordered_traced dropped shut

@@ -17,48 +17,48 @@ use Rattle.spec_c_dumper.proofs.origins.Ordering.{without_leaders, order_forgets
 use Rattle.spec_c_dumper.proofs.origins.Emission.{emit_lined, each_lined}
 use Rattle.spec_c_dumper.proofs.origins.Listed.{bytes_length}
 
-module _ {M : Type 0} (X : Machine M) (T : Table) (shows : ℕ → Bool) (nz : Numbered X) where
+module _ {M H : Type 0} (X : Machine M H) (T : Table) (shows : ℕ → Bool) (nz : Numbered X) where
   -- an answer that is the same for every list
   always_fits : (t : Explaining M) (a : Answer M) → t.answer ≡ a → FitsList (length t.entries) (λ r. t) a
   always_fits t a e = record { same = e; need = length t.entries; from = omega arith; held = omega arith; fits = λ c q. refl; short = λ c q i. absurd (omega arith); counts = λ q. refl }
 
   module _ (t : Explaining M) (x : ℕ) where
-    abbrev told_of : (ℕ → Bool) → Out (Traced M) → Explaining M
+    abbrev told_of : (ℕ → Bool) → Out (Traced M) H → Explaining M
     told_of r o = emitted_traced X T r shows t x o
 
-    told_out : (r : ℕ → Bool) (o : Out (Traced M)) → (told_of r o).answer ≡ emitted X T t.answer.sess x (forget o)
+    told_out : (r : ℕ → Bool) (o : Out (Traced M) H) → (told_of r o).answer ≡ emitted X T t.answer.sess x (forget o)
     unfolding emitted_traced dropped emitted forget
     told_out r (wrote s) = refl
-    told_out r (stuck e) = refl
+    told_out r (stuck m e) = refl
 
-    told_alike : (c : ℕ) (o : Out (Traced M)) → told_of (up_to c) o ≡ told_of always o
+    told_alike : (c : ℕ) (o : Out (Traced M) H) → told_of (up_to c) o ≡ told_of always o
     unfolding emitted_traced dropped
     told_alike c (wrote s) = refl
-    told_alike c (stuck e) = refl
+    told_alike c (stuck m e) = refl
 
-    told_held : (n : ℕ) → length t.entries ≤ n → (o : Out (Traced M)) → ((s : Traced M) → o ≡ wrote s → length s.entries ≡ n) → length (told_of always o).entries ≤ n
+    told_held : (n : ℕ) → length t.entries ≤ n → (o : Out (Traced M) H) → ((s : Traced M) → o ≡ wrote s → length s.entries ≡ n) → length (told_of always o).entries ≤ n
     unfolding emitted_traced dropped
     told_held n l (wrote s) h = let q : length s.entries ≡ n = h s refl in omega arith
-    told_held n l (stuck e) h = l
+    told_held n l (stuck m e) h = l
 
-    told_counts : (n : ℕ) (o : Out (Traced M)) → (o ≡ stuck 0 → ⊥) → ((s : Traced M) → o ≡ wrote s → length s.entries ≡ n) → (told_of always o).answer.number ≡ 0 → length (told_of always o).entries ≡ n
+    told_counts : (n : ℕ) (o : Out (Traced M) H) → ((m : H) → o ≡ stuck m 0 → ⊥) → ((s : Traced M) → o ≡ wrote s → length s.entries ≡ n) → (told_of always o).answer.number ≡ 0 → length (told_of always o).entries ≡ n
     unfolding emitted_traced dropped shut
     told_counts n (wrote s) z h q = h s refl
-    told_counts n (stuck e) z h q = absurd (z (ap stuck q))
+    told_counts n (stuck m e) z h q = absurd (z m (ap (stuck m) q))
 
-    told_short : (r : ℕ → Bool) → (told_of r (stuck 17)).answer.number ≡ 17
+    told_short : (r : ℕ → Bool) (m : H) → (told_of r (stuck m 17)).answer.number ≡ 17
     unfolding emitted_traced dropped shut
-    told_short r = refl
+    told_short r m = refl
 
     -- what emission comes to, as an answer
-    emitted_fits : (F : (ℕ → Bool) → Out (Traced M)) (P : Out M) → Lined (Numbered X) (length t.entries) F P → FitsList (length t.entries) (λ r. told_of r (F r)) (emitted X T t.answer.sess x P)
+    emitted_fits : (F : (ℕ → Bool) → Out (Traced M) H) (P : Out M H) → Lined (Numbered X) (length t.entries) F P → FitsList (length t.entries) (λ r. told_of r (F r)) (emitted X T t.answer.sess x P)
     emitted_fits F P h = record {
       same = told_out always (F always) ∙ ap (emitted X T t.answer.sess x) h.same;
       need = h.need;
       from = h.from;
       held = told_held h.need h.from (F always) h.counts;
       fits = λ c l. told_alike c (F (up_to c)) ∙ ap (told_of always) (h.fits c l);
-      short = λ c l q. ap (λ (o : Out (Traced M)). (told_of (up_to c) o).answer.number) (h.short c l q) ∙ told_short (up_to c);
+      short = λ c l q. ap (λ (o : Out (Traced M) H). (told_of (up_to c) o).answer.number) (h.short c l q).1 ∙ told_short (up_to c) (h.short c l q).0;
       counts = told_counts h.need (F always) (h.numbered nz) h.counts;
     }
 
@@ -67,7 +67,7 @@ module _ {M : Type 0} (X : Machine M) (T : Table) (shows : ℕ → Bool) (nz : N
     ordered_fits (ok s b) =
         emitted_fits (λ r. each_listed X T r shows (listed_entry x s.leaders) (X.store.list s.state) (record { mach = s.state; entries = t.entries })) (eeach (λ m y. emit X T 512 m y 0) (X.store.list s.state) s.state)
         (each_lined (Numbered X) (λ r m y. emit_traced X r shows (listed_entry x s.leaders) T 512 m y 0) (λ m y. emit X T 512 m y 0) (λ m y. emit_lined X shows (listed_entry x s.leaders) T 512 m y 0) (X.store.list s.state) (record { mach = s.state; entries = t.entries }))
-    ordered_fits (refused e) = always_fits (record { answer = shut X T t.answer.sess e; entries = t.entries; zeroed = true }) (shut X T t.answer.sess e) refl
+    ordered_fits (refused e) = always_fits (record { answer = shut X T t.answer.sess (X.held t.answer.sess.mach) e; entries = t.entries; zeroed = true }) (shut X T t.answer.sess (X.held t.answer.sess.mach) e) refl
 
     gate_fits : (room : ℕ) (o b : Bool) → FitsList (length t.entries) (λ r. gate_traced X T r shows room t x o b) (gate X T room t.answer.sess x o b)
     unfolding gate_traced gate
@@ -193,7 +193,7 @@ module _ {M : Type 0} (F : (ℕ → Bool) → Explaining M) (P : Answer M) (h : 
   unfolding causes_of
   is_short q = h.short (entries_in l) (omega arith) q
 
-module _ {M : Type 0} (X : Machine M) (T : Table) (shows : ℕ → Bool) (nz : Numbered X) (l : List ℕ) (room : ℕ) (S : Sess M) where
+module _ {M H : Type 0} (X : Machine M H) (T : Table) (shows : ℕ → Bool) (nz : Numbered X) (l : List ℕ) (room : ℕ) (S : Sess M) where
   -- THE THREE CALLS: with room for what they need, and without
   pub one_lent : (x : ℕ) → (single_fits X T shows nz room x (untold S)).need ≤ entries_in l → Lent l (single_traced X T always shows room x (untold S)) (single X T room S x) (one_causes X T shows l room S x)
   unfolding one_causes

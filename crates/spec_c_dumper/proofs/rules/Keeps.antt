@@ -1,45 +1,67 @@
--- What no naming operation changes, no emitter changes. Assumes nothing.
+-- What no naming operation changes, no emitter changes, nor is it other at any byte. Assumes nothing.
 use Prim.Native.Nat.{ℕ, ◌+◌}
-use mathlib.Core.Path.{◌≡◌, refl, ◌∙◌}
+use mathlib.Core.Path.{◌≡◌, refl, ◌∙◌, subst}
 use mathlib.Core.Bool.{Bool}
 use mathlib.Core.List.{List, [], ◌∷◌}
+use lib.ListN.{get_or}
 use Rattle.spec_bytes.specs.text.Text.{whole, cut}
-use Rattle.spec_c_dumper.specs.rules.Writer.{Said, said, said_names, Writer, after, next, put, stop, ◌⨾◌}
+use Rattle.spec_c_dumper.specs.rules.Writer.{reserve_passed, Said, said, said_names, said_held, Writer, after, next, put, stop, ◌⨾◌}
 use Rattle.spec_c_dumper.specs.rules.Types.{Name, Member, Param, Enumerator, BtfType, Void, Int, Ptr, Array, Composite, Enum, Enum64, Fwd, Typedef, Mod, Func, Var, Datasec, FuncProto, Float, DeclTag, TypeTag, Btf}
 use Rattle.spec_c_dumper.specs.rules.Names.{Space, Resolved, Naming, resolving}
 use Rattle.spec_c_dumper.specs.rules.Layout.{Pad}
 use Rattle.spec_c_dumper.specs.rules.Decl.{Entry, emit_composite_fwd, emit_fwd_def, enum_word, emit_values, enum_body, emit_enum_def, emit_name, parens, emit_param, emit_params, base_word, emit_array, emit_proto, param_list, chain_loop, emit_members, composite_head, composite_end, composite_body, composite_def, emit_type_decl, emit_type_chain, emit_composite_def, emit_typedef_def}
 use Rattle.spec_c_dumper.specs.rules.Emit.{definition, forward}
+use Rattle.spec_c_dumper.proofs.rules.Held.{Each, of_none, each_append, each_held_by, each_at, EachHas, resolved, held_put, held_stop, held_next}
 use Rattle.spec_c_dumper.proofs.rules.Closed.{ValuesFit, TypeFits, Closed, r_emit_name, r_parens, r_emit_param, r_emit_params, r_emit_composite_fwd, r_emit_fwd_def, r_enum_word, r_emit_values, r_enum_body, r_emit_enum_def, r_base_word, r_emit_array, r_emit_proto, r_param_list, r_chain_loop, r_emit_members, r_composite_head, r_composite_end, r_composite_body, r_composite_def, r_emit_type_decl, r_emit_type_chain, r_emit_composite_def, r_emit_typedef_def, r_definition, r_forward}
 
 module _ {U X : Type 0} (P : U → X) where
+  -- P stays, each byte has its names, and P is the same of them
+  abbrev pub Kept : U → Said U → Type 0
+  Kept u s = (P (said_names s) ≡ P u) × EachHas s × Each (λ (v : U). P v ≡ P u) (said_held s)
+
   abbrev pub Keeps : Writer U → Type 0
-  Keeps w = (u : U) → P (said_names (w u)) ≡ P u
+  Keeps w = (u : U) → Kept u (w u)
 
-  names_after : (a : List ℕ) (s : Said U) → P (said_names (after a s)) ≡ P (said_names s)
+  -- of names of which P is the same
+  pub kept_as : (u v : U) → P v ≡ P u → (s : Said U) → Kept v s → Kept u s
+  kept_as u v e s h = (h.0 ∙ e, h.1, subst (λ (x : X). Each (λ (w : U). P w ≡ x) (said_held s)) e h.2)
+
+  -- nor is P other where what is said stops
+  pub kept_at : (u : U) (s : Said U) → Kept u s → (i : ℕ) → P (get_or (said_held s) i (said_names s)) ≡ P u
+  kept_at u s h i = each_at (λ (v : U). P v ≡ P u) h.2 i (said_names s) h.0
+
+  names_after : (a : List ℕ) (k : List U) (s : Said U) → P (said_names (after a k s)) ≡ P (said_names s)
   unfolding after said_names
-  names_after a (said u t) = refl
+  names_after a k (said u t m) = refl
 
-  keeps_next : (s : Said U) (w : Writer U) → Keeps w → P (said_names (next s w)) ≡ P (said_names s)
+  names_next : (s : Said U) (w : Writer U) → Keeps w → P (said_names (next s w)) ≡ P (said_names s)
   unfolding next said_names
-  keeps_next (said u (whole a)) w h = names_after a (w u) ∙ h u
-  keeps_next (said u (cut a c)) w h = refl
+  names_next (said u (whole a) k) w h = names_after a k (w u) ∙ (h u).0
+  names_next (said u (cut a c) k) w h = refl
+
+  each_after : (a : List ℕ) (k : List U) (s : Said U) (Q : U → Type 0) → Each Q k → Each Q (said_held s) → Each Q (said_held (after a k s))
+  unfolding after said_held
+  each_after a k (said u t m) Q g h = each_append Q g h
+
+  each_next : (s : Said U) (w : Writer U) → Keeps w → (u : U) → Kept u s → Each (λ (v : U). P v ≡ P u) (said_held (next s w))
+  unfolding next said_names said_held
+  each_next (said v (whole a) k) w h u g = each_after a k (w v) (λ (x : U). P x ≡ P u) g.2 (kept_as u v g.0 (w v) (h v)).2
+  each_next (said v (cut a c) k) w h u g = g.2
 
   pub keeps_put : (a : List ℕ) → Keeps (put a)
-  unfolding put said_names
-  keeps_put a u = refl
+  unfolding put said_names said_held
+  keeps_put a u = (refl, held_put a u, each_held_by (λ (v : U). P v ≡ P u) u refl a)
 
   pub keeps_stop : (c : ℕ) → Keeps (stop c)
-  unfolding stop said_names
-  keeps_stop c u = refl
+  unfolding stop said_names said_held
+  keeps_stop c u = (refl, held_stop c u, of_none)
 
   pub keeps_then : (v w : Writer U) → Keeps v → Keeps w → Keeps (v ⨾ w)
   unfolding ◌⨾◌
-  keeps_then v w hv hw u = keeps_next (v u) w hw ∙ hv u
+  keeps_then v w hv hw u = (names_next (v u) w hw ∙ (hv u).0, held_next (v u) w (hv u).1 (λ z. (hw z).1), each_next (v u) w hw u (hv u))
 
   pub keeps_resolving : (f : U → Resolved U) → ((u : U) → P (f u).names ≡ P u) → (k : ℕ → Writer U) → ((n : ℕ) → Keeps (k n)) → Keeps (resolving f k)
-  unfolding resolving
-  keeps_resolving f hf k hk u = hk (f u).version (f u).names ∙ hf u
+  keeps_resolving f hf k hk u = resolved (Kept u) f k u (λ e. keeps_stop reserve_passed u) (λ e. kept_as u (f u).names (hf u) _ (hk (f u).version (f u).names))
 
 -- every name fits
 abbrev pub any_name : Space → ℕ → Name → Type 0

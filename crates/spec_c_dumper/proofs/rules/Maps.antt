@@ -20,9 +20,10 @@ module _ {A C : Type 0} (g : A → C) where
   tmap (told s f j) = told (g s) f j
   tmap (halted c j) = halted c j
 
-  abbrev pub omap : Out A → Out C
-  omap (wrote s) = wrote (g s)
-  omap (stuck c) = stuck c
+  -- gh: of what is held
+  abbrev pub omap : {HA HC : Type 0} → (HA → HC) → Out A HA → Out C HC
+  omap gh (wrote s) = wrote (g s)
+  omap gh (stuck h c) = stuck (gh h) c
 
 pub record StoreMap {A C : Type 0} (K : Store A) (L : Store C) (g : A → C) : Type 0 where
   pub gets : (s : A) (x : ℕ) → L.get (g s) x ≡ K.get s x
@@ -126,41 +127,42 @@ module _ {A C : Type 0} (K : Store A) (L : Store C) (g : A → C) (sm : StoreMap
       ap (visit L T (λ s' y f. order L n T s' y f) (g s) x weak) (sm.gets s x)
       ∙ map_visit T (λ s' y f. order K n T s' y f) s x weak (λ s' y f. order L n T s' y f) (λ s' y f. map_order n T s' y f) (K.get s x)
 
-pub record MachineMap {A C : Type 0} (X : Machine A) (Y : Machine C) (g : A → C) : Type 0 where
+pub record MachineMap {A HA C HC : Type 0} (X : Machine A HA) (Y : Machine C HC) (g : A → C) (gh : HA → HC) : Type 0 where
   pub stores : StoreMap X.store Y.store g
   pub starts : (room : ℕ) (s : A) → Y.start room (g s) ≡ g (X.start room s)
   pub egets : (s : A) (x : ℕ) → Y.eget (g s) x ≡ X.eget s x
   pub emarks : (d : Mark) (x : ℕ) (s : A) → Y.emark d x (g s) ≡ g (X.emark d x s)
   pub flags : (s : A) (x : ℕ) → Y.has_fwd (g s) x ≡ X.has_fwd s x
   pub flagged : (x : ℕ) (s : A) → Y.forwarded x (g s) ≡ g (X.forwarded x s)
-  pub fwd_lines : (s : A) (x : ℕ) → Y.fwd_line (g s) x ≡ omap g (X.fwd_line s x)
-  pub alias_lines : (s : A) (x : ℕ) → Y.alias_line (g s) x ≡ omap g (X.alias_line s x)
-  pub leaf_lines : (s : A) (x : ℕ) → Y.leaf_line (g s) x ≡ omap g (X.leaf_line s x)
-  pub bodies : (s : A) (x : ℕ) → Y.body (g s) x ≡ omap g (X.body s x)
+  pub fwd_lines : (s : A) (x : ℕ) → Y.fwd_line (g s) x ≡ omap g gh (X.fwd_line s x)
+  pub alias_lines : (s : A) (x : ℕ) → Y.alias_line (g s) x ≡ omap g gh (X.alias_line s x)
+  pub leaf_lines : (s : A) (x : ℕ) → Y.leaf_line (g s) x ≡ omap g gh (X.leaf_line s x)
+  pub bodies : (s : A) (x : ℕ) → Y.body (g s) x ≡ omap g gh (X.body s x)
+  pub helds : (s : A) → Y.held (g s) ≡ gh (X.held s)
 
-module _ {A C : Type 0} (X : Machine A) (Y : Machine C) (g : A → C) (mm : MachineMap X Y g) (T : Table) where
-  pub map_obind : (o : Out A) (k : A → Out A) (h : C → Out C) → ((s : A) → h (g s) ≡ omap g (k s)) → obind (omap g o) h ≡ omap g (obind o k)
+module _ {A HA C HC : Type 0} (X : Machine A HA) (Y : Machine C HC) (g : A → C) (gh : HA → HC) (mm : MachineMap X Y g gh) (T : Table) where
+  pub map_obind : (o : Out A HA) (k : A → Out A HA) (h : C → Out C HC) → ((s : A) → h (g s) ≡ omap g gh (k s)) → obind (omap g gh o) h ≡ omap g gh (obind o k)
   unfolding obind
   map_obind (wrote s) k h e = e s
-  map_obind (stuck c) k h e = refl
+  map_obind (stuck m c) k h e = refl
 
-  pub map_eeach : (h : C → ℕ → Out C) (k : A → ℕ → Out A) → ((s : A) (y : ℕ) → h (g s) y ≡ omap g (k s y)) → (ys : List ℕ) (s : A) → eeach h ys (g s) ≡ omap g (eeach k ys s)
+  pub map_eeach : (h : C → ℕ → Out C HC) (k : A → ℕ → Out A HA) → ((s : A) (y : ℕ) → h (g s) y ≡ omap g gh (k s y)) → (ys : List ℕ) (s : A) → eeach h ys (g s) ≡ omap g gh (eeach k ys s)
   unfolding eeach
   map_eeach h k e [] s = refl
-  map_eeach h k e (y ∷ ys) s = ap (λ (o : Out C). obind o (eeach h ys)) (e s y) ∙ map_obind (k s y) (eeach k ys) (eeach h ys) (λ s'. map_eeach h k e ys s')
+  map_eeach h k e (y ∷ ys) s = ap (λ (o : Out C HC). obind o (eeach h ys)) (e s y) ∙ map_obind (k s y) (eeach k ys) (eeach h ys) (λ s'. map_eeach h k e ys s')
 
-  map_once : (h : C → ℕ → Out C) (k : A → ℕ → Out A) → ((s : A) (y : ℕ) → h (g s) y ≡ omap g (k s y)) → (x : ℕ) (had : Bool) (s : A) → once Y T h x had (g s) ≡ omap g (once X T k x had s)
+  map_once : (h : C → ℕ → Out C HC) (k : A → ℕ → Out A HA) → ((s : A) (y : ℕ) → h (g s) y ≡ omap g gh (k s y)) → (x : ℕ) (had : Bool) (s : A) → once Y T h x had (g s) ≡ omap g gh (once X T k x had s)
   unfolding once
   map_once h k e x true s = refl
-  map_once h k e x false s = ap (λ (o : Out C). obind o (λ s'. wrote (Y.forwarded x s'))) (e s x) ∙ map_obind (k s x) (λ s'. wrote (X.forwarded x s')) (λ s'. wrote (Y.forwarded x s')) (λ s'. ap (λ (m : C). wrote m) (mm.flagged x s'))
+  map_once h k e x false s = ap (λ (o : Out C HC). obind o (λ s'. wrote (Y.forwarded x s'))) (e s x) ∙ map_obind (k s x) (λ s'. wrote (X.forwarded x s')) (λ s'. wrote (Y.forwarded x s')) (λ s'. ap (λ (m : C). wrote m) (mm.flagged x s'))
 
-  map_mention : (had nm : Bool) (x : ℕ) (s : A) → mention Y T had nm x (g s) ≡ omap g (mention X T had nm x s)
+  map_mention : (had nm : Bool) (x : ℕ) (s : A) → mention Y T had nm x (g s) ≡ omap g gh (mention X T had nm x s)
   unfolding mention
   map_mention true nm x s = refl
   map_mention false true x s = map_once Y.fwd_line X.fwd_line mm.fwd_lines x false s
-  map_mention false false x s = refl
+  map_mention false false x s = ap (λ (m : HC). stuck m 13) (mm.helds s)
 
-  map_again : (s : A) (x cont : ℕ) (nd : Node) → again Y T (g s) x cont nd ≡ omap g (again X T s x cont nd)
+  map_again : (s : A) (x cont : ℕ) (nd : Node) → again Y T (g s) x cont nd ≡ omap g gh (again X T s x cont nd)
   unfolding again
   map_again s x cont ignored = refl
   map_again s x cont plain = refl
@@ -171,69 +173,72 @@ module _ {A C : Type 0} (X : Machine A) (Y : Machine C) (g : A → C) (mm : Mach
   map_again s x cont (proto ts) = refl
   map_again s x cont (comp ms) = ap (λ (f : Bool). mention Y T (f || eqb x cont) (T.named x) x (g s)) (mm.flags s x) ∙ map_mention (X.has_fwd s x || eqb x cont) (T.named x) x s
 
-  map_close : (top : Bool) (x : ℕ) (s : A) → close Y T top x (g s) ≡ omap g (close X T top x s)
+  map_close : (top : Bool) (x : ℕ) (s : A) → close Y T top x (g s) ≡ omap g gh (close X T top x s)
   unfolding close
-  map_close true x s = ap (λ (o : Out C). obind o (λ s'. wrote (Y.emark done x s'))) (mm.bodies s x) ∙ map_obind (X.body s x) (λ s'. wrote (X.emark done x s')) (λ s'. wrote (Y.emark done x s')) (λ s'. ap (λ (m : C). wrote m) (mm.emarks done x s'))
+  map_close true x s = ap (λ (o : Out C HC). obind o (λ s'. wrote (Y.emark done x s'))) (mm.bodies s x) ∙ map_obind (X.body s x) (λ s'. wrote (X.emark done x s')) (λ s'. wrote (Y.emark done x s')) (λ s'. ap (λ (m : C). wrote m) (mm.emarks done x s'))
   map_close false x s = ap (λ (m : C). wrote m) (mm.emarks new x s)
 
-  map_leaf : (top : Bool) (x : ℕ) (s : A) → leaf Y T top x (g s) ≡ omap g (leaf X T top x s)
+  map_leaf : (top : Bool) (x : ℕ) (s : A) → leaf Y T top x (g s) ≡ omap g gh (leaf X T top x s)
   unfolding leaf
-  map_leaf true x s = ap (λ (o : Out C). obind o (λ s'. wrote (Y.emark done x s'))) (mm.leaf_lines s x) ∙ map_obind (X.leaf_line s x) (λ s'. wrote (X.emark done x s')) (λ s'. wrote (Y.emark done x s')) (λ s'. ap (λ (m : C). wrote m) (mm.emarks done x s'))
+  map_leaf true x s = ap (λ (o : Out C HC). obind o (λ s'. wrote (Y.emark done x s'))) (mm.leaf_lines s x) ∙ map_obind (X.leaf_line s x) (λ s'. wrote (X.emark done x s')) (λ s'. wrote (Y.emark done x s')) (λ s'. ap (λ (m : C). wrote m) (mm.emarks done x s'))
   map_leaf false x s = ap (λ (m : C). wrote m) (mm.emarks done x s)
 
-  module _ (h : C → ℕ → ℕ → Out C) (k : A → ℕ → ℕ → Out A) (e : (s : A) (y c : ℕ) → h (g s) y c ≡ omap g (k s y c)) (s : A) (x cont : ℕ) where
-    map_within : (all nm : Bool) (ms : List ℕ) → within Y T h (g s) x cont all nm ms ≡ omap g (within X T k s x cont all nm ms)
+  module _ (h : C → ℕ → ℕ → Out C HC) (k : A → ℕ → ℕ → Out A HA) (e : (s : A) (y c : ℕ) → h (g s) y c ≡ omap g gh (k s y c)) (s : A) (x cont : ℕ) where
+    map_within : (all nm : Bool) (ms : List ℕ) → within Y T h (g s) x cont all nm ms ≡ omap g gh (within X T k s x cont all nm ms)
     unfolding within
     map_within true nm ms = ap (eeach (λ s' y. h s' y (pick nm x cont)) ms) (mm.emarks busy x s) ∙ map_eeach (λ s' y. h s' y (pick nm x cont)) (λ s' y. k s' y (pick nm x cont)) (λ s' y. e s' y (pick nm x cont)) ms (X.emark busy x s)
     map_within false nm ms = ap (λ (f : Bool). once Y T Y.fwd_line x (f || eqb x cont) (Y.emark busy x (g s))) (mm.flags s x)
         ∙ ap (once Y T Y.fwd_line x (X.has_fwd s x || eqb x cont)) (mm.emarks busy x s)
         ∙ map_once Y.fwd_line X.fwd_line mm.fwd_lines x (X.has_fwd s x || eqb x cont) (X.emark busy x s)
 
-    map_begin : (top : Bool) (nd : Node) → begin Y T h (g s) x cont top nd ≡ omap g (begin X T k s x cont top nd)
+    map_begin : (top : Bool) (nd : Node) → begin Y T h (g s) x cont top nd ≡ omap g gh (begin X T k s x cont top nd)
     unfolding begin
     map_begin top ignored = refl
     map_begin top plain = refl
     map_begin top (listed f) = map_leaf (f || top) x s
     map_begin top (through a t) = e s t cont
     map_begin top (ptr t) = e s t cont
-    map_begin top (tdef t) = ap (λ (m : C). obind (h m t x) rest) (mm.emarks busy x s) ∙ ap (λ (o : Out C). obind o rest) (e (X.emark busy x s) t x)
+    map_begin top (tdef t) = ap (λ (m : C). obind (h m t x) rest) (mm.emarks busy x s) ∙ ap (λ (o : Out C HC). obind o rest) (e (X.emark busy x s) t x)
         ∙ map_obind (k (X.emark busy x s) t x) (λ s'. obind (once X T X.alias_line x (X.has_fwd s' x) s') (λ s''. wrote (X.emark done x s''))) rest
         (λ s'. ap (λ (f : Bool). obind (once Y T Y.alias_line x f (g s')) (λ s''. wrote (Y.emark done x s''))) (mm.flags s' x)
-        ∙ ap (λ (o : Out C). obind o (λ s''. wrote (Y.emark done x s''))) (map_once Y.alias_line X.alias_line mm.alias_lines x (X.has_fwd s' x) s')
+        ∙ ap (λ (o : Out C HC). obind o (λ s''. wrote (Y.emark done x s''))) (map_once Y.alias_line X.alias_line mm.alias_lines x (X.has_fwd s' x) s')
         ∙ map_obind (once X T X.alias_line x (X.has_fwd s' x) s') (λ s''. wrote (X.emark done x s'')) (λ s''. wrote (Y.emark done x s'')) (λ s''. ap (λ (m : C). wrote m) (mm.emarks done x s'')))
       where
-        rest : C → Out C
+        rest : C → Out C HC
         rest s' = obind (once Y T Y.alias_line x (Y.has_fwd s' x) s') (λ s''. wrote (Y.emark done x s''))
     map_begin top (proto ts) = map_eeach (λ s' y. h s' y cont) (λ s' y. k s' y cont) (λ s' y. e s' y cont) ts s
-    map_begin top (comp ms) = ap (λ (o : Out C). obind o (close Y T top x)) (map_within (top || not (T.named x)) (T.named x) ms)
+    map_begin top (comp ms) = ap (λ (o : Out C HC). obind o (close Y T top x)) (map_within (top || not (T.named x)) (T.named x) ms)
         ∙ map_obind (within X T k s x cont (top || not (T.named x)) (T.named x) ms) (close X T top x) (close Y T top x) (λ s'. map_close top x s')
 
-    map_allowed : (nameless : Bool) → allowed Y T h (g s) x cont nameless ≡ omap g (allowed X T k s x cont nameless)
+    map_allowed : (nameless : Bool) → allowed Y T h (g s) x cont nameless ≡ omap g gh (allowed X T k s x cont nameless)
     unfolding allowed
-    map_allowed true = refl
+    map_allowed true = ap (λ (m : HC). stuck m 14) (mm.helds s)
     map_allowed false = map_begin (is_zero cont) (T.node x)
 
-    pub map_look : (d : Mark) → look Y T h (g s) x cont d ≡ omap g (look X T k s x cont d)
+    pub map_look : (d : Mark) → look Y T h (g s) x cont d ≡ omap g gh (look X T k s x cont d)
     unfolding look
     map_look new = map_allowed (is_zero cont && not (T.named x))
     map_look busy = map_again s x cont (T.node x)
     map_look done = refl
 
-  pub map_emit : (n : ℕ) (s : A) (x cont : ℕ) → emit Y T n (g s) x cont ≡ omap g (emit X T n s x cont)
+  pub map_emit : (n : ℕ) (s : A) (x cont : ℕ) → emit Y T n (g s) x cont ≡ omap g gh (emit X T n s x cont)
   unfolding emit
-  map_emit zero s x cont = refl
+  map_emit zero s x cont = ap (λ (m : HC). stuck m 12) (mm.helds s)
   map_emit (suc n) s x cont = ap (look Y T (λ s' y c. emit Y T n s' y c) (g s) x cont) (mm.egets s x)
       ∙ map_look (λ s' y c. emit Y T n s' y c) (λ s' y c. emit X T n s' y c) (λ s' y c. map_emit n s' y c) s x cont (X.eget s x)
 
-  map_listed : (r : Res A) → listed_out Y T (rmap g r) ≡ omap g (listed_out X T r)
+  map_listed : (m : HA) (r : Res A) → listed_out Y T (gh m) (rmap g r) ≡ omap g gh (listed_out X T m r)
   unfolding listed_out
-  map_listed (ok s f) =
+  map_listed m (ok s f) =
       ap (λ (l : List ℕ). obind (eeach (λ m y. emit Y T 512 m y 0) l (g s)) (λ m. wrote (Y.start 0 m))) (mm.stores.lists s)
-      ∙ ap (λ (o : Out C). obind o (λ m. wrote (Y.start 0 m))) (map_eeach (λ m y. emit Y T 512 m y 0) (λ m y. emit X T 512 m y 0) (λ m y. map_emit 512 m y 0) (X.store.list s) s)
+      ∙ ap (λ (o : Out C HC). obind o (λ m. wrote (Y.start 0 m))) (map_eeach (λ m y. emit Y T 512 m y 0) (λ m y. emit X T 512 m y 0) (λ m y. map_emit 512 m y 0) (X.store.list s) s)
       ∙ map_obind (eeach (λ m y. emit X T 512 m y 0) (X.store.list s) s) (λ m. wrote (X.start 0 m)) (λ m. wrote (Y.start 0 m)) (λ m. ap (λ (c : C). wrote c) (mm.starts 0 m))
-  map_listed (refused c) = refl
+  map_listed m (refused c) = refl
 
   -- a request of the one machine, seen in the other
-  pub map_dumped : (s : A) (x : ℕ) → dumped Y T (g s) x ≡ omap g (dumped X T s x)
+  pub map_dumped : (s : A) (x : ℕ) → dumped Y T (g s) x ≡ omap g gh (dumped X T s x)
   unfolding dumped
-  map_dumped s x = ap (listed_out Y T) (map_order X.store Y.store g mm.stores 512 T s x false) ∙ map_listed (order X.store 512 T s x false)
+  map_dumped s x =
+      ap (λ (m : HC). listed_out Y T m (order Y.store 512 T (g s) x false)) (mm.helds s)
+      ∙ ap (listed_out Y T (gh (X.held s))) (map_order X.store Y.store g mm.stores 512 T s x false)
+      ∙ map_listed (X.held s) (order X.store 512 T s x false)

@@ -1,54 +1,79 @@
 -- One theorem over all emitters: where two ways of keeping names give related names the same versions, every emitter writes the same text with both,
--- and leaves related names. Assumes nothing.
-use Prim.Native.Nat.{ℕ}
-use mathlib.Core.Path.{◌≡◌, refl, subst}
+-- holds related names at each byte, and leaves related names. Assumes nothing.
+use Prim.Native.Nat.{ℕ, zero, suc}
+use mathlib.Core.Path.{◌≡◌, refl, sym, ◌∙◌, subst}
 use mathlib.Core.Bool.{Bool, false}
-use mathlib.Core.List.{List, []}
+use mathlib.Core.List.{List, [], ◌∷◌, ◌++◌}
+use lib.ListN.{get_or}
 use Rattle.spec_bytes.specs.text.Text.{Text, whole, cut, join}
-use Rattle.spec_c_dumper.specs.rules.Writer.{Said, said, said_text, said_names, Writer, after, next, put, stop, ◌⨾◌}
+use Rattle.spec_c_dumper.specs.rules.Writer.{reserve_passed, Said, said, said_text, said_names, said_held, Writer, held_by, after, next, put, stop, ◌⨾◌}
 use Rattle.spec_c_dumper.specs.rules.Types.{Name, is_empty, Member, Param, Enumerator, BtfType, Btf}
 use Rattle.spec_c_dumper.specs.rules.Names.{Space, tag_space, ident_space, Resolved, Naming, resolving}
 use Rattle.spec_c_dumper.specs.rules.Layout.{Pad}
 use Rattle.spec_c_dumper.specs.rules.Decl.{Entry, emit_composite_fwd, emit_fwd_def, enum_word, emit_values, enum_body, emit_enum_def, emit_name, parens, emit_param, emit_params, base_word, emit_array, emit_proto, param_list, chain_loop, emit_members, composite_head, composite_end, composite_body, composite_def, emit_type_decl, emit_type_chain, emit_composite_def, emit_typedef_def}
 use Rattle.spec_c_dumper.specs.rules.Emit.{definition, forward}
+use Rattle.spec_c_dumper.proofs.rules.Held.{resolved, resolved_over, resolved_within}
 use Rattle.spec_c_dumper.proofs.rules.Closed.{ValuesFit, TypeFits, Closed, r_emit_name, r_parens, r_emit_param, r_emit_params, r_emit_composite_fwd, r_emit_fwd_def, r_enum_word, r_emit_values, r_enum_body, r_emit_enum_def, r_base_word, r_emit_array, r_emit_proto, r_param_list, r_chain_loop, r_emit_members, r_composite_head, r_composite_end, r_composite_body, r_composite_def, r_emit_type_decl, r_emit_type_chain, r_emit_composite_def, r_emit_typedef_def, r_definition, r_forward}
 
 module _ {U W : Type 0} (R : U → W → Type 0) where
-  -- the same text, related names
+  -- related names, one by one
+  pub data RelAll : List U → List W → Type 0 where
+    no_byte : RelAll [] []
+    one_byte : (u : U) (w : W) (k : List U) (m : List W) → R u w → RelAll k m → RelAll (u ∷ k) (w ∷ m)
+
+  -- the same text, related names at each of its bytes and after it
   pub data RelSaid : Said U → Said W → Type 0 where
-    same : (u : U) (w : W) (t : Text) → R u w → RelSaid (said u t) (said w t)
+    same : (u : U) (w : W) (t : Text) (k : List U) (m : List W) → R u w → RelAll k m → RelSaid (said u t k) (said w t m)
+
+  pub rel_append : {k l : List U} {m n : List W} → RelAll k m → RelAll l n → RelAll (k ++ l) (m ++ n)
+  rel_append no_byte q = q
+  rel_append (one_byte u w k m r p) q = one_byte u w _ _ r (rel_append p q)
+
+  pub rel_held_by : (u : U) (w : W) → R u w → (a : List ℕ) → RelAll (held_by u a) (held_by w a)
+  rel_held_by u w r [] = no_byte
+  rel_held_by u w r (b ∷ a) = one_byte u w _ _ r (rel_held_by u w r a)
+
+  -- those at any place; past the end there is the default
+  pub rel_at : {k : List U} {m : List W} → RelAll k m → (i : ℕ) (u : U) (w : W) → R u w → R (get_or k i u) (get_or m i w)
+  rel_at no_byte i u w r = r
+  rel_at (one_byte v x k m q p) zero u w r = q
+  rel_at (one_byte v x k m q p) (suc i) u w r = rel_at p i u w r
 
   abbrev pub RelW : Writer U → Writer W → Type 0
   RelW w₁ w₂ = (u : U) (v : W) → R u v → RelSaid (w₁ u) (w₂ v)
 
-  -- the same version, related names
+  -- both pass or neither, the same version, related names
   abbrev pub RelResolved : Resolved U → Resolved W → Type 0
-  RelResolved r₁ r₂ = (r₁.version ≡ r₂.version) × R r₁.names r₂.names
+  RelResolved r₁ r₂ = (r₁.passes ≡ r₂.passes) × (r₁.version ≡ r₂.version) × R r₁.names r₂.names
 
   pub rel_text : {s₁ : Said U} {s₂ : Said W} → RelSaid s₁ s₂ → said_text s₁ ≡ said_text s₂
   unfolding said_text
-  rel_text (same u w t r) = refl
+  rel_text (same u w t k m r p) = refl
 
   pub rel_names : {s₁ : Said U} {s₂ : Said W} → RelSaid s₁ s₂ → R (said_names s₁) (said_names s₂)
   unfolding said_names
-  rel_names (same u w t r) = r
+  rel_names (same u w t k m r p) = r
 
-  rel_after : {s₁ : Said U} {s₂ : Said W} → (a : List ℕ) → RelSaid s₁ s₂ → RelSaid (after a s₁) (after a s₂)
+  pub rel_held : {s₁ : Said U} {s₂ : Said W} → RelSaid s₁ s₂ → RelAll (said_held s₁) (said_held s₂)
+  unfolding said_held
+  rel_held (same u w t k m r p) = p
+
+  rel_after : {s₁ : Said U} {s₂ : Said W} → (a : List ℕ) {k : List U} {m : List W} → RelAll k m → RelSaid s₁ s₂ → RelSaid (after a k s₁) (after a m s₂)
   unfolding after
-  rel_after a (same u w t r) = same u w (join (whole a) t) r
+  rel_after a p (same u w t k m r q) = same u w (join (whole a) t) _ _ r (rel_append p q)
 
   rel_next : {s₁ : Said U} {s₂ : Said W} → (w₁ : Writer U) (w₂ : Writer W) → RelSaid s₁ s₂ → RelW w₁ w₂ → RelSaid (next s₁ w₁) (next s₂ w₂)
   unfolding next
-  rel_next w₁ w₂ (same u v (whole a) r) h = rel_after a (h u v r)
-  rel_next w₁ w₂ (same u v (cut a c) r) h = same u v (cut a c) r
+  rel_next w₁ w₂ (same u v (whole a) k m r p) h = rel_after a p (h u v r)
+  rel_next w₁ w₂ (same u v (cut a c) k m r p) h = same u v (cut a c) k m r p
 
   pub rel_put : (a : List ℕ) → RelW (put a) (put a)
   unfolding put
-  rel_put a u v r = same u v (whole a) r
+  rel_put a u v r = same u v (whole a) _ _ r (rel_held_by u v r a)
 
   pub rel_stop : (c : ℕ) → RelW (stop c) (stop c)
   unfolding stop
-  rel_stop c u v r = same u v (cut [] c) r
+  rel_stop c u v r = same u v (cut [] c) [] [] r no_byte
 
   pub rel_then : (v₁ w₁ : Writer U) (v₂ w₂ : Writer W) → RelW v₁ v₂ → RelW w₁ w₂ → RelW (v₁ ⨾ w₁) (v₂ ⨾ w₂)
   unfolding ◌⨾◌
@@ -56,10 +81,23 @@ module _ {U W : Type 0} (R : U → W → Type 0) where
 
   pub rel_resolving : (f₁ : U → Resolved U) (f₂ : W → Resolved W) → ((u : U) (v : W) → R u v → RelResolved (f₁ u) (f₂ v))
       → (k₁ : ℕ → Writer U) (k₂ : ℕ → Writer W) → ((n : ℕ) → RelW (k₁ n) (k₂ n)) → RelW (resolving f₁ k₁) (resolving f₂ k₂)
-  unfolding resolving
   rel_resolving f₁ f₂ hf k₁ k₂ hk u v r =
       let q = hf u v r in
-      subst (λ (n : ℕ). RelSaid (k₁ (f₁ u).version (f₁ u).names) (k₂ n (f₂ v).names)) q.0 (hk (f₁ u).version (f₁ u).names (f₂ v).names q.1)
+      resolved (λ s. RelSaid s (resolving f₂ k₂ v)) f₁ k₁ u
+      (λ e. subst (RelSaid (stop reserve_passed u)) (resolved_over f₂ k₂ v (sym q.0 ∙ e)) (rel_stop reserve_passed u v r))
+      (λ e. subst (RelSaid (k₁ (f₁ u).version (f₁ u).names)) (resolved_within f₂ k₂ v (sym q.0 ∙ e))
+      (subst (λ (n : ℕ). RelSaid (k₁ (f₁ u).version (f₁ u).names) (k₂ n (f₂ v).names)) q.1 (hk (f₁ u).version (f₁ u).names (f₂ v).names q.2)))
+
+-- what relates one by one, relates in another way too; or through a third
+module _ {U W : Type 0} (R S : U → W → Type 0) (h : (u : U) (w : W) → R u w → S u w) where
+  pub rel_each : {k : List U} {m : List W} → RelAll R k m → RelAll S k m
+  rel_each no_byte = no_byte
+  rel_each (one_byte u w k m r p) = one_byte u w k m (h u w r) (rel_each p)
+
+module _ {U V W : Type 0} (R : U → V → Type 0) (S : V → W → Type 0) (Q : U → W → Type 0) (h : (u : U) (v : V) (w : W) → R u v → S v w → Q u w) where
+  pub rel_through : {k : List U} {l : List V} {m : List W} → RelAll R k l → RelAll S l m → RelAll Q k m
+  rel_through no_byte no_byte = no_byte
+  rel_through (one_byte u v k l r p) (one_byte _ w _ m s q) = one_byte u w k m (h u v w r s) (rel_through p q)
 
 -- two ways of keeping names; a type's name is never empty
 pub record RelNaming {U W : Type 0} (R : U → W → Type 0) (Fits : Space → ℕ → Name → Type 0) (FitsValue : ℕ → ℕ → Name → Type 0) (N₁ : Naming U) (N₂ : Naming W) : Type 0 where
@@ -67,6 +105,7 @@ pub record RelNaming {U W : Type 0} (R : U → W → Type 0) (Fits : Space → �
       → RelResolved R (N₁.type_version space id name u) (N₂.type_version space id name v)
   pub rel_value : (id i : ℕ) (name : Name) → FitsValue id i name → (u : U) (v : W) → R u v
       → RelResolved R (N₁.value_version id i name u) (N₂.value_version id i name v)
+  pub rel_leaving : (h₁ : U) (h₂ : W) → R h₁ h₂ → (u : U) (v : W) → R u v → R (N₁.leaving h₁ u) (N₂.leaving h₂ v)
 
 module _ {U W : Type 0} (R : U → W → Type 0) (Fits : Space → ℕ → Name → Type 0) (FitsValue : ℕ → ℕ → Name → Type 0) (N₁ : Naming U) (N₂ : Naming W) (related : RelNaming R Fits FitsValue N₁ N₂) where
   pub rel_closed : Closed N₁ N₂ Fits FitsValue (λ w₁ w₂. RelW R w₁ w₂)

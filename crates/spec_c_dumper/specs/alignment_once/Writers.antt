@@ -118,15 +118,17 @@ module _ {St : Type 0} (Q : Asks St) (N : Naming St) (B : Btf) where
   forward_once id (TypeTag a n t) = nothing
 
   -- ---- a session (crates/spec_c_dumper/specs/needs/Session), with the memory beside the names
-  abbrev pub lines_once : Lines (Known St)
+  abbrev pub lines_once : Lines (Known St) St
   lines_once = record {
     fwd = λ room k id. line_of room k.text_len (forward_once id (B.type_by_id id) k.names);
     alias' = λ room k id. line_of room k.text_len (forward_once id (B.type_by_id id) k.names);
     leaf' = λ room k id. line_of room k.text_len (definition_once id (B.type_by_id id) k.names);
     body' = λ room k id. line_of room k.text_len (definition_once id (B.type_by_id id) k.names);
+    held' = λ k. k.names;
+    leaving' = λ held k. record { names = N.leaving held k.names; text_len = k.text_len };
   }
 
-  abbrev pub machine_once : Machine (Ls (Known St))
+  abbrev pub machine_once : Machine (Ls (Known St)) St
   machine_once = list_machine lines_once
 
   unfoldable pub answer_once : Sess (Ls (Known St)) → Req → Answer (Ls (Known St))
@@ -152,13 +154,18 @@ pub record Remembering (U M : Type 0) : Type 0 where
 
 module _ {U M : Type 0} where
   abbrev pub with_names : Remembering U M → Resolved U → Resolved (Remembering U M)
-  with_names v r = record { version = r.version; names = record { names = r.names; memory = v.memory; visits = v.visits } }
+  with_names v r = record {
+    passes = r.passes;
+    version = r.version;
+    names = record { names = r.names; memory = v.memory; visits = v.visits };
+  }
 
   -- names are given as they are without a memory
   abbrev pub remembering_names : Naming U → Naming (Remembering U M)
   remembering_names N = record {
     type_version = λ space id name v. with_names v (N.type_version space id name v.names);
     value_version = λ id i name v. with_names v (N.value_version id i name v.names);
+    leaving = λ held v. record { names = N.leaving held.names v.names; memory = v.memory; visits = v.visits };
   }
 
   unfoldable pub carried : {A : Type 0} → Remembering U M → Once M A → Once (Remembering U M) A

@@ -116,10 +116,10 @@ pub record Counted (M : Type 0) : Type 0 where
   pub answer : Answer M
   pub made : ℕ
 
-module _ {M : Type 0} (X : Machine M) (T : Table) where
+module _ {M H : Type 0} (X : Machine M H) (T : Table) where
   unfoldable pub ordered_within : Sess M → ℕ → Told M → Counted M
   ordered_within S x (told s b k) = record { answer = emitted X T S x (eeach (λ m y. emit X T 512 m y 0) (X.store.list s) s); made = k }
-  ordered_within S x (halted e k) = record { answer = shut X T S e; made = k }
+  ordered_within S x (halted e k) = record { answer = shut X T S (X.held S.mach) e; made = k }
 
   -- as `gate`: 11 and 10 make no call
   unfoldable pub gate_within : ℕ → ℕ → Sess M → ℕ → ℕ → Bool → Bool → Counted M

@@ -39,7 +39,7 @@ module _ {St : Type 0} (K : Store St) where
   order_twice (suc n) T s x weak = visit_twice T (λ s' y w. order_twice n T s' y w) s x weak (K.get s x)
 
 -- requests
-module _ {M : Type 0} (X : Machine M) (T : Table) where
+module _ {M H : Type 0} (X : Machine M H) (T : Table) where
   abbrev pub ordering_twice : ℕ → Sess M → ℕ → Res M
   ordering_twice room S x = order_twice X.store 512 T (X.start room S.mach) x false
 

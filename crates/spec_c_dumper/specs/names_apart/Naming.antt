@@ -123,10 +123,12 @@ unfoldable pub type_apart : Btf → Space → ℕ → Name → Apart → Resolve
 type_apart B space id name u =
     elim (eqb (get_or u.names.versions id 0) 0) [
       | false ↦ record {
+        passes = false;
         version = get_or u.names.versions id 0;
         names = record { names = u.names; printed = shown space (of_type id) name (get_or u.names.versions id 0) u };
       }
       | true ↦ record {
+        passes = false;
         version = number_for B space name u;
         names = record {
           names =
@@ -139,6 +141,7 @@ type_apart B space id name u =
 -- an enumerator is one more holder each time it is printed
 unfoldable pub value_apart : Btf → ℕ → ℕ → Name → Apart → Resolved Apart
 value_apart B id i name u = record {
+  passes = false;
   version = number_for B ident_space name u;
   names = record {
     names = record { versions = u.names.versions; ledger = with_one u.names.ledger ident_space name };
@@ -147,7 +150,7 @@ value_apart B id i name u = record {
 }
 
 abbrev pub apart : Btf → Naming Apart
-apart B = record { type_version = type_apart B; value_version = value_apart B }
+apart B = record { type_version = type_apart B; value_version = value_apart B; leaving = λ held u. u }
 
 -- ---- the rules' sessions with it
 

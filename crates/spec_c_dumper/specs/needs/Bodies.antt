@@ -21,11 +21,12 @@ is_leaf (tdef t) = false
 is_leaf (proto ts) = false
 is_leaf (comp ts) = false
 
--- t is what the writer prints, with the names at that step
+-- t is what the writer prints, with the names at that step; held: the names at each of its bytes
 pub record Prints {U : Type 0} (w : Writer U) (t : List ℕ) : Type 0 where
   pub names : U
   pub after : U
-  pub is : w names ≡ said after (whole t)
+  pub held : List U
+  pub is : w names ≡ said after (whole t) held
 
 -- t begins with the word, a space, the name with some number, and ` {`
 pub record Opens (word : List ℕ) (name : Name) (t : List ℕ) : Type 0 where

@@ -16,7 +16,7 @@ pub record Once (c : ℕ) (l : List ℕ) : Type 0 where
 -- DEMAND 3. S: the session after the list of requests; tags: the ids of the pieces that define, in the text's order. What such a piece
 -- prints is said in specs/Bodies. The piece of a composite whose name contains `__builtin_va_list` is among them, though it is only `;`: "a
 -- name that contains it is not defined".
-pub record Demand3 {M : Type 0} (X : Machine M) (T : Table) (S : Sess M) : Type 0 where
+pub record Demand3 {M H : Type 0} (X : Machine M H) (T : Table) (S : Sess M) : Type 0 where
   -- each named composite that an accepted request asked for is defined exactly once
   pub asked_once : (c : ℕ) → Memᴰ c S.asked → NamedComp T c → Once c (X.tags S.mach)
   -- what is defined is a named composite, none twice

@@ -13,17 +13,19 @@ tags_of [] = []
 tags_of (defines x t ∷ ps) = x ∷ tags_of ps
 tags_of (other t ∷ ps) = tags_of ps
 
--- what a line comes to: what the writer knows after it, and its bytes; or a refusal
-pub data Line (U : Type 0) : Type 0 where
-  says : U → List ℕ → Line U
-  cannot : ℕ → Line U
+-- what a line comes to: what the writer knows after it, and its bytes; or a refusal, and what is held of the names where it stops
+pub data Line (U H : Type 0) : Type 0 where
+  says : U → List ℕ → Line U H
+  cannot : H → ℕ → Line U H
 
--- with the room that the text has, and what is known
-pub record Lines (U : Type 0) : Type 0 where
-  pub fwd : ℕ → U → ℕ → Line U
-  pub alias' : ℕ → U → ℕ → Line U
-  pub leaf' : ℕ → U → ℕ → Line U
-  pub body' : ℕ → U → ℕ → Line U
+-- with the room that the text has, and what is known; what is held of it, and what a refused request leaves of what it held
+pub record Lines (U H : Type 0) : Type 0 where
+  pub fwd : ℕ → U → ℕ → Line U H
+  pub alias' : ℕ → U → ℕ → Line U H
+  pub leaf' : ℕ → U → ℕ → Line U H
+  pub body' : ℕ → U → ℕ → Line U H
+  pub held' : U → H
+  pub leaving' : H → U → U
 
 pub record Ls (U : Type 0) : Type 0 where
   pub marks : List Mark
@@ -34,8 +36,8 @@ pub record Ls (U : Type 0) : Type 0 where
   pub known : U
   pub pieces : List Piece
 
-module _ {U : Type 0} where
-  abbrev pub put_line : (List ℕ → Piece) → Ls U → Line U → Out (Ls U)
+module _ {U H : Type 0} where
+  abbrev pub put_line : (List ℕ → Piece) → Ls U → Line U H → Out (Ls U) H
   put_line mk s (says u t) =
       wrote (record {
         marks = s.marks;
@@ -46,8 +48,9 @@ module _ {U : Type 0} where
         known = u;
         pieces = s.pieces ++ (mk t ∷ []);
       })
-  put_line mk s (cannot e) = stuck e
+  put_line mk s (cannot held e) = stuck held e
 
+module _ {U : Type 0} where
   abbrev pub list_store : Store (Ls U)
   list_store = record {
     get = λ s x. get_or s.marks x new;
@@ -72,7 +75,7 @@ module _ {U : Type 0} where
     list = λ s. s.olist;
   }
 
-  abbrev pub list_machine : Lines U → Machine (Ls U)
+  abbrev pub list_machine : {H : Type 0} → Lines U H → Machine (Ls U) H
   list_machine L = record {
     store = list_store;
     start =
@@ -102,6 +105,16 @@ module _ {U : Type 0} where
     leaf_line = λ s x. put_line other s (L.leaf' s.room s.known x);
     body = λ s x. put_line (defines x) s (L.body' s.room s.known x);
     tags = λ s. tags_of s.pieces;
+    held = λ s. L.held' s.known;
+    leaving = λ held s. record {
+      marks = s.marks;
+      olist = s.olist;
+      emits = s.emits;
+      fwds = s.fwds;
+      room = s.room;
+      known = L.leaving' held s.known;
+      pieces = s.pieces;
+    };
   }
 
   -- n types: nothing marked, nothing written

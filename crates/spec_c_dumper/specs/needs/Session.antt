@@ -1,5 +1,5 @@
 -- The lines of a session, the machine of lists that writes them, and what a list of requests comes to.
-use Rattle.std.specs.Prelude.{ℕ, zero, suc, ◌+◌, true, false, List, [], ◌∷◌, ◌++◌, length, replicate, leb}
+use Rattle.std.specs.Prelude.{ℕ, zero, suc, ◌+◌, ◌-◌, true, false, List, [], ◌∷◌, ◌++◌, length, replicate, get_or, leb}
 use Rattle.spec_bytes.specs.text.Text.{ascii, Text, whole, cut, bytes}
 use Rattle.spec_bytes.specs.text.Decimal.{decimal}
 use Rattle.spec_c_dumper.specs.rules.Machine.{Machine, Sess, Answer, Req, one, all, single, every}
@@ -26,25 +26,35 @@ pub record Known (U : Type 0) : Type 0 where
   pub text_len : ℕ
 
 module _ {U : Type 0} where
-  unfoldable pub fitting : ℕ → U → Text → Line (Known U)
+  -- the names held when the first print began that so many bytes have no room for
+  unfoldable pub names_at_stop : ℕ → Said U → U
+  names_at_stop room (said u t k) = get_or k room u
+
+  unfoldable pub fitting : ℕ → U → Text → Line (Known U) U
   fitting len u (whole a) = says (record { names = u; text_len = len + length a }) a
-  fitting len u (cut a c) = cannot c
+  fitting len u (cut a c) = cannot u c
 
   -- 17 if more was printed than there is room for; no text is longer than 2^30 bytes
-  unfoldable pub line_of : ℕ → ℕ → Said U → Line (Known U)
-  line_of room len (said u t) = elim (leb (len + length (bytes t)) (smaller room 1073741824)) [ true ↦ fitting len u t | false ↦ cannot 17 ]
+  unfoldable pub line_of : ℕ → ℕ → Said U → Line (Known U) U
+  line_of room len (said u t k) =
+      elim (leb (len + length (bytes t)) (smaller room 1073741824)) [
+        | true ↦ fitting len u t
+        | false ↦ cannot (names_at_stop (smaller room 1073741824 - len) (said u t k)) 17
+      ]
 
 -- with any way of keeping names
 module _ {U : Type 0} (N : Naming U) (B : Btf) where
-  abbrev pub lines_by : Lines (Known U)
+  abbrev pub lines_by : Lines (Known U) U
   lines_by = record {
     fwd = λ room k id. line_of room k.text_len (forward N B id (B.type_by_id id) k.names);
     alias' = λ room k id. line_of room k.text_len (forward N B id (B.type_by_id id) k.names);
     leaf' = λ room k id. line_of room k.text_len (definition N B id (B.type_by_id id) k.names);
     body' = λ room k id. line_of room k.text_len (definition N B id (B.type_by_id id) k.names);
+    held' = λ k. k.names;
+    leaving' = λ held k. record { names = N.leaving held k.names; text_len = k.text_len };
   }
 
-  abbrev pub machine_by : Machine (Ls (Known U))
+  abbrev pub machine_by : Machine (Ls (Known U)) U
   machine_by = list_machine lines_by
 
   -- what opening leaves, with the names u
@@ -61,7 +71,7 @@ module _ {U : Type 0} (N : Naming U) (B : Btf) where
   dumped ns (r ∷ rs) S = let a = answer_to S r in dumped (ns ++ ((a.number, a.sess.mach.known.text_len) ∷ [])) rs a.sess
 
 -- with the names of the Rust
-abbrev pub machine : Btf → Machine (Ls (Known Names))
+abbrev pub machine : Btf → Machine (Ls (Known Names)) Names
 machine B = machine_by naming B
 
 -- no type has a version, no name a holder

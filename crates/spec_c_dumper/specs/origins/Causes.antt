@@ -77,9 +77,9 @@ pub record Traced (M : Type 0) : Type 0 where
   pub mach : M
   pub entries : List Entry
 
-unfoldable pub with_entries : {M : Type 0} → List Entry → Out M → Out (Traced M)
+unfoldable pub with_entries : {M H : Type 0} → List Entry → Out M H → Out (Traced M) H
 with_entries es (wrote m) = wrote (record { mach = m; entries = es })
-with_entries es (stuck e) = stuck e
+with_entries es (stuck h e) = stuck h e
 
 -- room for one more entry after k: in a list of c entries, or always
 abbrev pub up_to : ℕ → ℕ → Bool
@@ -89,11 +89,14 @@ abbrev pub always : ℕ → Bool
 always k = true
 
 -- what a line comes to that is an entry, or prints nothing and is none. "A lent list too short for one more entry is 17, met before any
--- other step of that line."
-unfoldable pub line : {M : Type 0} → (ℕ → Bool) → Bool → Entry → (M → Out M) → Traced M → Out (Traced M)
-line more false e step s = with_entries s.entries (step s.mach)
-line more true e step s =
-    elim (more (length s.entries)) [ true ↦ with_entries (s.entries ++ (e ∷ [])) (step s.mach) | false ↦ stuck 17 ]
+-- other step of that line": with what is held of the names then.
+unfoldable pub line : {M H : Type 0} → (M → H) → (ℕ → Bool) → Bool → Entry → (M → Out M H) → Traced M → Out (Traced M) H
+line held more false e step s = with_entries s.entries (step s.mach)
+line held more true e step s =
+    elim (more (length s.entries)) [
+      | true ↦ with_entries (s.entries ++ (e ∷ [])) (step s.mach)
+      | false ↦ stuck (held s.mach) 17
+    ]
 
 -- At the top a line is there because its id is listed. Within a container, "led to by the container id at that step": a FWD is printed as a
 -- forward line (2), a typedef early (3).
@@ -103,9 +106,9 @@ cause_at within top x (suc cont) = entry x within (suc cont)
 
 -- more: whether there is room for one more entry; shows: whether the forward line or typedef line of an id prints anything; why: the entry
 -- of a listed id
-module _ {M : Type 0} (X : Machine M) (more : ℕ → Bool) (shows : ℕ → Bool) (why : ℕ → Entry) where
+module _ {M H : Type 0} (X : Machine M H) (more : ℕ → Bool) (shows : ℕ → Bool) (why : ℕ → Entry) where
   -- the machine's steps within a container, 0 at the top; "a definition is one" line, also where it is only `;`
-  abbrev pub noting : ℕ → Machine (Traced M)
+  abbrev pub noting : ℕ → Machine (Traced M) H
   noting cont = record {
     store = record {
       get = λ s x. X.store.get s.mach x;
@@ -118,16 +121,18 @@ module _ {M : Type 0} (X : Machine M) (more : ℕ → Bool) (shows : ℕ → Boo
     emark = λ m x s. record { mach = X.emark m x s.mach; entries = s.entries };
     has_fwd = λ s x. X.has_fwd s.mach x;
     forwarded = λ x s. record { mach = X.forwarded x s.mach; entries = s.entries };
-    fwd_line = λ s x. line more (shows x) (entry x 2 cont) (λ m. X.fwd_line m x) s;
-    alias_line = λ s x. line more (shows x) (cause_at 3 (why x) x cont) (λ m. X.alias_line m x) s;
-    leaf_line = λ s x. line more true (cause_at 2 (why x) x cont) (λ m. X.leaf_line m x) s;
-    body = λ s x. line more true (why x) (λ m. X.body m x) s;
+    fwd_line = λ s x. line X.held more (shows x) (entry x 2 cont) (λ m. X.fwd_line m x) s;
+    alias_line = λ s x. line X.held more (shows x) (cause_at 3 (why x) x cont) (λ m. X.alias_line m x) s;
+    leaf_line = λ s x. line X.held more true (cause_at 2 (why x) x cont) (λ m. X.leaf_line m x) s;
+    body = λ s x. line X.held more true (why x) (λ m. X.body m x) s;
     tags = λ s. X.tags s.mach;
+    held = λ s. X.held s.mach;
+    leaving = λ held s. record { mach = X.leaving held s.mach; entries = s.entries };
   }
 
   -- the rule `emit`: each call with the machine of its container
-  unfoldable pub emit_traced : Table → ℕ → Traced M → ℕ → ℕ → Out (Traced M)
-  emit_traced T zero s x cont = stuck 12
+  unfoldable pub emit_traced : Table → ℕ → Traced M → ℕ → ℕ → Out (Traced M) H
+  emit_traced T zero s x cont = stuck (X.held s.mach) 12
   emit_traced T (suc n) s x cont = look (noting cont) T (λ s' y c. emit_traced T n s' y c) s x cont (X.eget s.mach x)
 
 -- A forward line, or a typedef, of a name that contains `__builtin_va_list` prints nothing; a definition prints at least `;`.
@@ -147,27 +152,27 @@ pub record Explaining (M : Type 0) : Type 0 where
 abbrev pub untold : {M : Type 0} → Sess M → Explaining M
 untold S = record { answer = record { sess = S; number = 0 }; entries = []; zeroed = false }
 
-module _ {M : Type 0} (X : Machine M) (T : Table) (more : ℕ → Bool) (shows : ℕ → Bool) where
+module _ {M H : Type 0} (X : Machine M H) (T : Table) (more : ℕ → Bool) (shows : ℕ → Bool) where
   -- "a refused request's are dropped"
-  unfoldable pub dropped : Explaining M → ℕ → Explaining M
-  dropped t e = record { answer = shut X T t.answer.sess e; entries = t.entries; zeroed = true }
+  unfoldable pub dropped : Explaining M → H → ℕ → Explaining M
+  dropped t held e = record { answer = shut X T t.answer.sess held e; entries = t.entries; zeroed = true }
 
-  unfoldable pub emitted_traced : Explaining M → ℕ → Out (Traced M) → Explaining M
+  unfoldable pub emitted_traced : Explaining M → ℕ → Out (Traced M) H → Explaining M
   emitted_traced t x (wrote m) = record {
     answer = record { sess = record { is_open = true; mach = m.mach; asked = t.answer.sess.asked ++ (x ∷ []) }; number = 0 };
     entries = m.entries;
     zeroed = true;
   }
-  emitted_traced t x (stuck e) = dropped t e
+  emitted_traced t x (stuck held e) = dropped t held e
 
   -- the listed ids, each at the top
-  abbrev pub each_listed : (ℕ → Entry) → List ℕ → Traced M → Out (Traced M)
+  abbrev pub each_listed : (ℕ → Entry) → List ℕ → Traced M → Out (Traced M) H
   each_listed why = eeach (λ m y. emit_traced X more shows why T 512 m y 0)
 
   unfoldable pub ordered_traced : Explaining M → ℕ → Res (WithLeaders M) → Explaining M
   ordered_traced t x (ok s b) =
       emitted_traced t x (each_listed (listed_entry x s.leaders) (X.store.list s.state) (record { mach = s.state; entries = t.entries }))
-  ordered_traced t x (refused e) = dropped t e
+  ordered_traced t x (refused e) = dropped t (X.held t.answer.sess.mach) e
 
   -- as `gate`; 11 and 10 leave everything
   unfoldable pub gate_traced : ℕ → Explaining M → ℕ → Bool → Bool → Explaining M
@@ -233,7 +238,7 @@ abbrev pub entries_in : List ℕ → ℕ
 entries_in l = length l / 12
 
 -- the calls that are lent a list l: one id, a list of ids, all ids
-module _ {M : Type 0} (X : Machine M) (T : Table) (shows : ℕ → Bool) where
+module _ {M H : Type 0} (X : Machine M H) (T : Table) (shows : ℕ → Bool) where
   unfoldable pub one_causes : List ℕ → ℕ → Sess M → ℕ → Causes M
   one_causes l room S x = causes_of l (single_traced X T (up_to (entries_in l)) shows room x (untold S))
 

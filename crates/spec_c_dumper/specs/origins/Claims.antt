@@ -38,27 +38,27 @@ pub record LedTo (T : Table) (req id leader : ℕ) : Type 0 where
 
 -- ---- entries and the plain rules
 
-unfoldable pub forget : {M : Type 0} → Out (Traced M) → Out M
+unfoldable pub forget : {M H : Type 0} → Out (Traced M) H → Out M H
 forget (wrote s) = wrote s.mach
-forget (stuck e) = stuck e
+forget (stuck h e) = stuck h e
 
 -- what is asked of a machine: no line is refused by the number 0, which is that of success
-pub record Numbered {M : Type 0} (X : Machine M) : Type 0 where
-  pub fwd_no : (m : M) (x : ℕ) → X.fwd_line m x ≡ stuck 0 → ⊥
-  pub alias_no : (m : M) (x : ℕ) → X.alias_line m x ≡ stuck 0 → ⊥
-  pub leaf_no : (m : M) (x : ℕ) → X.leaf_line m x ≡ stuck 0 → ⊥
-  pub body_no : (m : M) (x : ℕ) → X.body m x ≡ stuck 0 → ⊥
+pub record Numbered {M H : Type 0} (X : Machine M H) : Type 0 where
+  pub fwd_no : (m : M) (x : ℕ) (h : H) → X.fwd_line m x ≡ stuck h 0 → ⊥
+  pub alias_no : (m : M) (x : ℕ) (h : H) → X.alias_line m x ≡ stuck h 0 → ⊥
+  pub leaf_no : (m : M) (x : ℕ) (h : H) → X.leaf_line m x ≡ stuck h 0 → ⊥
+  pub body_no : (m : M) (x : ℕ) (h : H) → X.body m x ≡ stuck h 0 → ⊥
 
 -- What emission comes to, with k entries before it: with room for all, what the plain rule comes to. In a list of c entries it is the same
 -- if the lines that are begun fit, and else 17. Z: that no line is refused by the number 0.
-pub record Lined {M : Type 0} (Z : Type 0) (k : ℕ) (F : (ℕ → Bool) → Out (Traced M)) (plainly : Out M) : Type 0 where
+pub record Lined {M H : Type 0} (Z : Type 0) (k : ℕ) (F : (ℕ → Bool) → Out (Traced M) H) (plainly : Out M H) : Type 0 where
   pub same : forget (F always) ≡ plainly
   pub need : ℕ
   pub from : k ≤ need
   pub fits : (c : ℕ) → need ≤ c → F (up_to c) ≡ F always
-  pub short : (c : ℕ) → k ≤ c → c < need → F (up_to c) ≡ stuck 17
+  pub short : (c : ℕ) → k ≤ c → c < need → (h : H) × (F (up_to c) ≡ stuck h 17)
   pub counts : (s : Traced M) → F always ≡ wrote s → length s.entries ≡ need
-  pub numbered : Z → F always ≡ stuck 0 → ⊥
+  pub numbered : Z → (h : H) → F always ≡ stuck h 0 → ⊥
 
 -- The same of the requests of a call: without the entries its answer is that of the plain requests, unless the list is too short, which is
 -- 17. need: the entries of the accepted requests, and of the lines that a refused one began.
@@ -72,7 +72,7 @@ pub record FitsList {M : Type 0} (k : ℕ) (F : (ℕ → Bool) → Explaining M)
   pub counts : (F always).answer.number ≡ 0 → length (F always).entries ≡ need
 
 -- a list of ids without entries
-unfoldable pub list_plain : {M : Type 0} → Machine M → Table → ℕ → List ℕ → Sess M → Answer M
+unfoldable pub list_plain : {M H : Type 0} → Machine M H → Table → ℕ → List ℕ → Sess M → Answer M
 list_plain X T room [] S = record { sess = S; number = 0 }
 list_plain X T room (x ∷ xs) S = onward X T (list_plain X T room xs) (single X T room S x)
 

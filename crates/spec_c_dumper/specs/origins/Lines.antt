@@ -49,9 +49,11 @@ module _ {U : Type 0} (N : Naming U) (B : Btf) where
     | false ↦ definition N B e.id (B.type_by_id e.id)
   ]
 
-  -- t is what the line of the entry prints, with the names at that step, u; it ends as a line does. v: the names after it
+  -- t is what the line of the entry prints, with the names at that step, u; it ends as a line does. v: the names after it; held: those at
+  -- each of its bytes
   pub record Says (u : U) (e : Entry) (t : List ℕ) (v : U) : Type 0 where
-    pub is : writer_of e u ≡ said v (whole t)
+    pub held : List U
+    pub is : writer_of e u ≡ said v (whole t) held
     pub ends : Ended t
 
   -- the piece of that line: one with a composite's body defines it

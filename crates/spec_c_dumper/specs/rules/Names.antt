@@ -4,7 +4,7 @@ use Rattle.spec_bytes.specs.words.Words.{one_more}
 use Rattle.spec_bytes.specs.text.Text.{ascii}
 use Rattle.spec_bytes.specs.text.Decimal.{decimal}
 use Rattle.spec_c_dumper.specs.rules.Types.{Name, is_empty}
-use Rattle.spec_c_dumper.specs.rules.Writer.{Writer}
+use Rattle.spec_c_dumper.specs.rules.Writer.{Writer, stop, reserve_passed}
 
 -- NamedKind: tags (struct, union, enum) are one space, typedefs and enumerators the other
 pub data Space : Type 0 where
@@ -14,20 +14,23 @@ pub data Space : Type 0 where
 unfoldable pub spelled : Name → ℕ → Name
 spelled name version = elim (ltb version 2) [ true ↦ name | false ↦ name ++ ascii "___" ++ decimal version ]
 
--- the version that a name was given, and the names after that
+-- the version that a name was given, and the names after that; or, where it passes what the session may take, neither
 pub record Resolved (U : Type 0) : Type 0 where
+  pub passes : Bool
   pub version : ℕ
   pub names : U
 
--- What keeps the names: the version of type id's name, which is not empty; and that of value k of enum id.
+-- What keeps the names: the version of type id's name, which is not empty; that of value k of enum id; and what a refused request leaves of
+-- the names that it found, where these were held at its refusal.
 pub record Naming (U : Type 0) : Type 0 where
   pub type_version : Space → ℕ → Name → U → Resolved U
   pub value_version : ℕ → ℕ → Name → U → Resolved U
+  pub leaving : U → U → U
 
 module _ {U : Type 0} where
-  -- what is written with the version that a name gets
+  -- what is written with the version that a name gets; "20 when a new name passes the session's own reserve"
   unfoldable pub resolving : (U → Resolved U) → (ℕ → Writer U) → Writer U
-  resolving f k u = k (f u).version (f u).names
+  resolving f k u = elim (f u).passes [ true ↦ stop reserve_passed u | false ↦ k (f u).version (f u).names ]
 
   module _ (N : Naming U) where
     -- resolve_type_name, and what is written with the name
@@ -83,8 +86,9 @@ with_one (h ∷ hs) space name =
 unfoldable pub type_version : Space → ℕ → Name → Names → Resolved Names
 type_version space id name u =
     elim (eqb (get_or u.versions id 0) 0) [
-      | false ↦ record { version = get_or u.versions id 0; names = u }
+      | false ↦ record { passes = false; version = get_or u.versions id 0; names = u }
       | true ↦ record {
+        passes = false;
         version = one_more (holders u.ledger space name);
         names =
             record { versions = set u.versions id (one_more (holders u.ledger space name)); ledger = with_one u.ledger space name };
@@ -94,12 +98,17 @@ type_version space id name u =
 -- an enumerator is one more holder each time it is printed
 unfoldable pub value_version : Name → Names → Resolved Names
 value_version name u = record {
+  passes = false;
   version = one_more (holders u.ledger ident_space name);
   names = record { versions = u.versions; ledger = with_one u.ledger ident_space name };
 }
 
 abbrev pub naming : Naming Names
-naming = record { type_version = type_version; value_version = λ id i name u. value_version name u }
+naming = record {
+  type_version = type_version;
+  value_version = λ id i name u. value_version name u;
+  leaving = λ held u. u;
+}
 
 unfoldable pub starts_with : List ℕ → List ℕ → Bool
 starts_with [] s = true

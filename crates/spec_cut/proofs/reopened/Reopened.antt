@@ -71,7 +71,7 @@ reads p modes s n ok y = record {
     btf_type : ℕ → BtfType
     btf_type k = kept (header_of p modes s).strs s (get_or (types_of s) k void_type)
 
-pub run_more : {M : Type 0} (X : Machine M) (T : Table) (rs : List Req) (r : Req) (L : Sess M) → run X T (rs ++ (r ∷ [])) L ≡ serve X T (run X T rs L) r
+pub run_more : {M H : Type 0} (X : Machine M H) (T : Table) (rs : List Req) (r : Req) (L : Sess M) → run X T (rs ++ (r ∷ [])) L ≡ serve X T (run X T rs L) r
 unfolding run
 run_more X T [] r L = refl
 run_more X T (q ∷ rs) r L = run_more X T rs r (serve X T L q)

@@ -91,8 +91,9 @@ module _ (B : Btf) (n : ℕ) (types : ℕ → BtfType) (tags : ℕ → List ℕ)
       by : Names → ℕ → ℕ → Resolved Names
       by w y k =
           elim (eqb k 0) [
-            | false ↦ record { version = k; names = w }
+            | false ↦ record { passes = false; version = k; names = w }
             | true ↦ record {
+              passes = false;
               version = one_more (holders w.ledger space name);
               names = record { versions = set w.versions y (one_more (holders w.ledger space name)); ledger = with_one w.ledger space name };
             }
@@ -105,10 +106,11 @@ module _ (B : Btf) (n : ℕ) (types : ℕ → BtfType) (tags : ℕ → List ℕ)
       go k = pick (eqb k 0)
         where
           pick : (b : Bool) → RelResolved SameNames
-              (elim b [ false ↦ record { version = k; names = u } | true ↦ record { version = one_more (holders u.ledger space name); names = record { versions = set u.versions id (one_more (holders u.ledger space name)); ledger = with_one u.ledger space name } } ])
-              (elim b [ false ↦ record { version = k; names = v } | true ↦ record { version = one_more (holders v.ledger space name); names = record { versions = set v.versions id' (one_more (holders v.ledger space name)); ledger = with_one v.ledger space name } } ])
-          pick false = (refl, h)
+              (elim b [ false ↦ record { passes = false; version = k; names = u } | true ↦ record { passes = false; version = one_more (holders u.ledger space name); names = record { versions = set u.versions id (one_more (holders u.ledger space name)); ledger = with_one u.ledger space name } } ])
+              (elim b [ false ↦ record { passes = false; version = k; names = v } | true ↦ record { passes = false; version = one_more (holders v.ledger space name); names = record { versions = set v.versions id' (one_more (holders v.ledger space name)); ledger = with_one v.ledger space name } } ])
+          pick false = (refl, refl, h)
           pick true = (
+            refl,
             same_new,
             record {
               versions_same =
@@ -121,6 +123,7 @@ module _ (B : Btf) (n : ℕ) (types : ℕ → BtfType) (tags : ℕ → List ℕ)
   value_version_same : (name : Name) (u v : Names) → SameNames u v → RelResolved SameNames (value_version name u) (value_version name v)
   unfolding value_version
   value_version_same name u v h = (
+    refl,
     ap (λ (l : List Holder). one_more (holders l ident_space name)) h.ledger_same,
     record {
       versions_same = h.versions_same;
@@ -146,9 +149,9 @@ module _ (B : Btf) (n : ℕ) (types : ℕ → BtfType) (tags : ℕ → List ℕ)
     pub known_same : SameKnown s.known s'.known
     pub pieces_same : SamePieces I s.pieces s'.pieces
 
-  data SameLine : Line (Known Names) → Line (Known Names) → Type 0 where
+  data SameLine : Line (Known Names) Names → Line (Known Names) Names → Type 0 where
     l_says : (k k' : Known Names) (t : List ℕ) → SameKnown k k' → SameLine (says k t) (says k' t)
-    l_cannot : (e : ℕ) → SameLine (cannot e) (cannot e)
+    l_cannot : {u v : Names} (e : ℕ) → SameLine (cannot u e) (cannot v e)
 
   fitting_same : (len : ℕ) (u v : Names) → SameNames u v → (t : Text) → SameLine (fitting len u t) (fitting len v t)
   unfolding fitting
@@ -157,11 +160,11 @@ module _ (B : Btf) (n : ℕ) (types : ℕ → BtfType) (tags : ℕ → List ℕ)
 
   line_of_same : (room len : ℕ) {s s' : Said Names} → RelSaid SameNames s s' → SameLine (line_of room len s) (line_of room len s')
   unfolding line_of
-  line_of_same room len (same u v t h) = go (leb (len + length (bytes t)) (smaller room 1073741824))
+  line_of_same room len (same u v t k m h p) = go _ _ (leb (len + length (bytes t)) (smaller room 1073741824))
     where
-      go : (b : Bool) → SameLine (elim b [ true ↦ fitting len u t | false ↦ cannot 17 ]) (elim b [ true ↦ fitting len v t | false ↦ cannot 17 ])
-      go true = fitting_same len u v h t
-      go false = l_cannot 17
+      go : (u' v' : Names) (b : Bool) → SameLine (elim b [ true ↦ fitting len u t | false ↦ cannot u' 17 ]) (elim b [ true ↦ fitting len v t | false ↦ cannot v' 17 ])
+      go u' v' true = fitting_same len u v h t
+      go u' v' false = l_cannot 17
 
   line_same : (room room' : ℕ) → room ≡ room' → (k k' : Known Names) → SameKnown k k' → (w w' : Names → Said Names) → ((u v : Names) → SameNames u v → RelSaid SameNames (w u) (w' v))
       → SameLine (line_of room k.text_len (w k.names)) (line_of room' k'.text_len (w' k'.names))
@@ -171,7 +174,7 @@ module _ (B : Btf) (n : ℕ) (types : ℕ → BtfType) (tags : ℕ → List ℕ)
       (line_of_same room k.text_len (f k.names k'.names h.names_same)))
 
   put_same : (mk mk' : List ℕ → Piece) → ((t : List ℕ) → SamePieces I (mk t ∷ []) (mk' t ∷ [])) → (s s' : Ls (Known Names)) → SameState s s'
-      → {l l' : Line (Known Names)} → SameLine l l' → BothOut SameState (put_line mk s l) (put_line mk' s' l')
+      → {l l' : Line (Known Names) Names} → SameLine l l' → BothOut SameState (put_line mk s l) (put_line mk' s' l')
   put_same mk mk' hm s s' h (l_says k k' t r) = both_wrote _ _ (record {
     marks_same = h.marks_same;
     olist_same = h.olist_same;
@@ -253,6 +256,7 @@ module _ (B : Btf) (n : ℕ) (types : ℕ → BtfType) (tags : ℕ → List ℕ)
     s_alias = λ s s' h x x' i. put_same other other plainly s s' h (forward_line s s' h x x' i);
     s_leaf = λ s s' h x x' i. put_same other other plainly s s' h (definition_line s s' h x x' i);
     s_body = λ s s' h x x' i. put_same (defines x) (defines x') (λ t. both_define x x' i t no_pieces) s s' h (definition_line s s' h x x' i);
+    s_leaving = λ u v s s' h. h;
   }
 
   abbrev pub BothSessions : Sess (Ls (Known Names)) → Sess (Ls (Known Names)) → Type 0

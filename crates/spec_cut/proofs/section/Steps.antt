@@ -24,17 +24,17 @@ both_bind k k' (both s s' b q) f = f s s' b q
 both_bind k k' (neither e) f = neither e
 
 -- what two lines, or two emissions, come to
-pub data BothOut {M M' : Type 0} (Q : M → M' → Type 0) : Out M → Out M' → Type 0 where
+pub data BothOut {M H M' H' : Type 0} (Q : M → M' → Type 0) : Out M H → Out M' H' → Type 0 where
   both_wrote : (s : M) (s' : M') → Q s s' → BothOut Q (wrote s) (wrote s')
-  both_stuck : (e : ℕ) → BothOut Q (stuck e) (stuck e)
+  both_stuck : {h : H} {h' : H'} (e : ℕ) → BothOut Q (stuck h e) (stuck h' e)
 
-out_bind : {M M' : Type 0} {Q : M → M' → Type 0} {r : Out M} {r' : Out M'} (k : M → Out M) (k' : M' → Out M') → BothOut Q r r' → ((s : M) (s' : M') → Q s s' → BothOut Q (k s) (k' s')) → BothOut Q (obind r k) (obind r' k')
+out_bind : {M H M' H' : Type 0} {Q : M → M' → Type 0} {r : Out M H} {r' : Out M' H'} (k : M → Out M H) (k' : M' → Out M' H') → BothOut Q r r' → ((s : M) (s' : M') → Q s s' → BothOut Q (k s) (k' s')) → BothOut Q (obind r k) (obind r' k')
 unfolding obind
 out_bind k k' (both_wrote s s' q) f = f s s' q
 out_bind k k' (both_stuck e) f = both_stuck e
 
 -- Steps of two machines that go alike.
-pub record SameSteps {M M' : Type 0} (X : Machine M) (X' : Machine M') (I : ℕ → ℕ → Type 0) (Q : M → M' → Type 0) : Type 0 where
+pub record SameSteps {M H M' H' : Type 0} (X : Machine M H) (X' : Machine M' H') (I : ℕ → ℕ → Type 0) (Q : M → M' → Type 0) : Type 0 where
   pub s_get : (s : M) (s' : M') → Q s s' → (x x' : ℕ) → I x x' → X.store.get s x ≡ X'.store.get s' x'
   pub s_mark : (m : Mark) (x x' : ℕ) (s : M) (s' : M') → Q s s' → I x x' → Q (X.store.mark m x s) (X'.store.mark m x' s')
   pub s_push : (x x' : ℕ) (s : M) (s' : M') → Q s s' → I x x' → Q (X.store.push x s) (X'.store.push x' s')
@@ -48,6 +48,7 @@ pub record SameSteps {M M' : Type 0} (X : Machine M) (X' : Machine M') (I : ℕ 
   pub s_alias : (s : M) (s' : M') → Q s s' → (x x' : ℕ) → I x x' → BothOut Q (X.alias_line s x) (X'.alias_line s' x')
   pub s_leaf : (s : M) (s' : M') → Q s s' → (x x' : ℕ) → I x x' → BothOut Q (X.leaf_line s x) (X'.leaf_line s' x')
   pub s_body : (s : M) (s' : M') → Q s s' → (x x' : ℕ) → I x x' → BothOut Q (X.body s x) (X'.body s' x')
+  pub s_leaving : (h : H) (h' : H') (s : M) (s' : M') → Q s s' → Q (X.leaving h s) (X'.leaving h' s')
 
 -- two sessions, and two answers
 pub record BothSess {M M' : Type 0} (Q : M → M' → Type 0) (I : ℕ → ℕ → Type 0) (S : Sess M) (S' : Sess M') : Type 0 where
@@ -150,7 +151,7 @@ module _ (B : Btf) (n : ℕ) (types : ℕ → BtfType) (tags : ℕ → List ℕ)
   pub named_same : (x x' : ℕ) → I x x' → T.named x ≡ T'.named x'
   named_same x x' i = ap (λ (m : List ℕ). not (is_empty m)) (name_of_lem (st.same_type x x' i))
 
-  module _ {M M' : Type 0} (X : Machine M) (X' : Machine M') (Q : M → M' → Type 0) (al : SameSteps X X' I Q) where
+  module _ {M H M' H' : Type 0} (X : Machine M H) (X' : Machine M' H') (Q : M → M' → Type 0) (al : SameSteps X X' I Q) where
     abbrev K : Store M
     K = X.store
 
@@ -226,14 +227,14 @@ module _ (B : Btf) (n : ℕ) (types : ℕ → BtfType) (tags : ℕ → List ℕ)
 
     -- ---- emission
 
-    eeach_same : (f : M → ℕ → Out M) (f' : M' → ℕ → Out M') → ((s : M) (s' : M') (y y' : ℕ) → Q s s' → I y y' → BothOut Q (f s y) (f' s' y'))
+    eeach_same : (f : M → ℕ → Out M H) (f' : M' → ℕ → Out M' H') → ((s : M) (s' : M') (y y' : ℕ) → Q s s' → I y y' → BothOut Q (f s y) (f' s' y'))
         → {ys ys' : List ℕ} → Each I ys ys' → (s : M) (s' : M') → Q s s' → BothOut Q (eeach f ys s) (eeach f' ys' s')
     unfolding eeach
     eeach_same f f' h none s s' q = both_wrote s s' q
     eeach_same f f' h (more {x} {x'} {xs} {xs'} i is) s s' q = out_bind (eeach f xs) (eeach f' xs') (h s s' x x' q i) (λ t t' q'. eeach_same f f' h is t t' q')
 
     module _ (x x' : ℕ) (i : I x x') where
-      once_same : (w : M → ℕ → Out M) (w' : M' → ℕ → Out M') → ((s : M) (s' : M') → Q s s' → (y y' : ℕ) → I y y' → BothOut Q (w s y) (w' s' y'))
+      once_same : (w : M → ℕ → Out M H) (w' : M' → ℕ → Out M' H') → ((s : M) (s' : M') → Q s s' → (y y' : ℕ) → I y y' → BothOut Q (w s y) (w' s' y'))
           → (b b' : Bool) → b ≡ b' → (s : M) (s' : M') → Q s s' → BothOut Q (once X T w x b s) (once X' T' w' x' b' s')
       unfolding once
       once_same w w' h true true e s s' q = both_wrote s s' q
@@ -267,7 +268,7 @@ module _ (B : Btf) (n : ℕ) (types : ℕ → BtfType) (tags : ℕ → List ℕ)
         again_same s s' q (n_proto ts ts' is) = both_wrote s s' q
         again_same s s' q (n_comp ts ts' is) = mention_same _ _ (flag_same s s' q) _ _ (named_same x x' i) s s' q
 
-      marked : (m : Mark) (s : M) (s' : M') → Q s s' → BothOut Q (wrote (X.emark m x s)) (wrote (X'.emark m x' s'))
+      marked : (m : Mark) (s : M) (s' : M') → Q s s' → BothOut {H = H} {H' = H'} Q (wrote (X.emark m x s)) (wrote (X'.emark m x' s'))
       marked m s s' q = both_wrote _ _ (al.s_emark m x x' s s' q i)
 
       close_same : (top top' : Bool) → top ≡ top' → (s : M) (s' : M') → Q s s' → BothOut Q (close X T top x s) (close X' T' top' x' s')
@@ -284,7 +285,7 @@ module _ (B : Btf) (n : ℕ) (types : ℕ → BtfType) (tags : ℕ → List ℕ)
       leaf_same true false e s s' q = absurd (true≢false e)
       leaf_same false true e s s' q = absurd (true≢false (sym e))
 
-      module _ (rec : M → ℕ → ℕ → Out M) (rec' : M' → ℕ → ℕ → Out M') (keeps : (s : M) (s' : M') (y y' c c' : ℕ) → Q s s' → I y y' → I c c' → BothOut Q (rec s y c) (rec' s' y' c'))
+      module _ (rec : M → ℕ → ℕ → Out M H) (rec' : M' → ℕ → ℕ → Out M' H') (keeps : (s : M) (s' : M') (y y' c c' : ℕ) → Q s s' → I y y' → I c c' → BothOut Q (rec s y c) (rec' s' y' c'))
           (s : M) (s' : M') (cont cont' : ℕ) (q : Q s s') (ic : I cont cont') where
         q_busy : Q (X.emark busy x s) (X'.emark busy x' s')
         q_busy = al.s_emark busy x x' s s' q i
@@ -346,20 +347,20 @@ module _ (B : Btf) (n : ℕ) (types : ℕ → BtfType) (tags : ℕ → List ℕ)
     -- ---- a request
 
     module _ (S : Sess M) (S' : Sess M') (h : BothSess Q I S S') where
-      shut_same : (e : ℕ) → BothAnswer Q I (shut X T S e) (shut X' T' S' e)
+      shut_same : (m : H) (m' : H') (e : ℕ) → BothAnswer Q I (shut X T S m e) (shut X' T' S' m' e)
       unfolding shut
-      shut_same e = record { same_number = refl; sessions = record { same_open = refl; same_asked = h.same_asked; alike = h.alike } }
+      shut_same m m' e = record { same_number = refl; sessions = record { same_open = refl; same_asked = h.same_asked; alike = al.s_leaving m m' S.mach S'.mach h.alike } }
 
-      emitted_same : (x x' : ℕ) → I x x' → {r : Out M} {r' : Out M'} → BothOut Q r r' → BothAnswer Q I (emitted X T S x r) (emitted X' T' S' x' r')
+      emitted_same : (x x' : ℕ) → I x x' → {r : Out M H} {r' : Out M' H'} → BothOut Q r r' → BothAnswer Q I (emitted X T S x r) (emitted X' T' S' x' r')
       unfolding emitted
       emitted_same x x' i (both_wrote s s' q) = record { same_number = refl; sessions = record { same_open = refl; same_asked = each_append h.same_asked x x' i; alike = q } }
-      emitted_same x x' i (both_stuck e) = shut_same e
+      emitted_same x x' i (both_stuck {h = m} {h' = m'} e) = shut_same m m' e
 
       ordered_same : (x x' : ℕ) → I x x' → {r : Res M} {r' : Res M'} → BothRes Q r r' → BothAnswer Q I (ordered X T S x r) (ordered X' T' S' x' r')
       unfolding ordered
       ordered_same x x' i (both s s' b q) =
           emitted_same x x' i (eeach_same (λ m y. emit X T 512 m y 0) (λ m y. emit X' T' 512 m y 0) (λ r r' y y' q' j. emit_same 512 r r' y y' 0 0 q' j st.zero_kept) (al.s_list s s' q) s s' q)
-      ordered_same x x' i (neither e) = shut_same e
+      ordered_same x x' i (neither e) = shut_same (X.held S.mach) (X'.held S'.mach) e
 
       gate_same : (room x x' : ℕ) → I x x' → (o o' : Bool) → o ≡ o' → BothAnswer Q I (gate X T room S x o true) (gate X' T' room S' x' o' true)
       unfolding gate

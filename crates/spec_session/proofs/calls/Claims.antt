@@ -87,7 +87,7 @@ pub data Sane (l : ℕ) (p : List ℕ) (n : ℕ) : Reach → Type 0 where
 
 module _ (l : ℕ) (p : List ℕ) (n : ℕ) where
   module _ (len : ℕ) (t : List ℕ) (low : l ≤ len) (high : len ≤ n) (long : length t ≡ n) (begins : take l t ≡ p) where
-    came_sane : (v k : ℕ) → len + k ≤ n → (o : Out Slices) → Fair (Inside k) o → Sane l p n (came_to len v t o)
+    came_sane : (v k : ℕ) → len + k ≤ n → (o : Out Slices (Unit {0})) → Fair (Inside k) o → Sane l p n (came_to len v t o)
     unfolding came_to
     came_sane v k fits _ (goes m g) =
         let room : len + length m.text ≤ length t = omega (arith, g.1) in
@@ -128,7 +128,7 @@ pub data Visited (v : ℕ) : Reach → Type 0 where
   went : (len : ℕ) (w t : List ℕ) → Visited v (reached len w t)
   stayed : (c len : ℕ) (t : List ℕ) → 0 < c → Visited v (refused_by c len v t)
 
-came_counts : (len v k : ℕ) (t : List ℕ) (o : Out Slices) → Fair (Inside k) o → Visited v (came_to len v t o)
+came_counts : (len v k : ℕ) (t : List ℕ) (o : Out Slices (Unit {0})) → Fair (Inside k) o → Visited v (came_to len v t o)
 unfolding came_to
 came_counts len v k t _ (goes m g) = went (len + m.at) m.work (place t len m.text)
 came_counts len v k t _ (stops c q) = stayed c len (take len t) (omega (arith, q.0))

@@ -1,6 +1,6 @@
 -- What a request leaves: its place in the text is not past the text's end, and what refuses it is 12 to 18. Assumes nothing.
 use Prim.Native.Nat.{ℕ, zero, suc, ◌+◌, ◌-◌, ◌≤◌}
-use mathlib.Core.Path.{◌≡◌, ◌∙◌}
+use mathlib.Core.Path.{◌≡◌, ◌∙◌, sym, subst}
 use mathlib.Core.Bool.{Bool, true, false, not, ◌&&◌, ◌||◌}
 use mathlib.Core.List.{List, [], ◌∷◌}
 use mathlib.Core.Logic.{⊎_elim, inl, inr}
@@ -15,12 +15,13 @@ use Rattle.spec_bytes.proofs.text.TextLaws.{put_fits, put_none, place_length}
 use Rattle.spec_c_dumper.specs.rules.Order.{Node, ignored, plain, listed, through, ptr, tdef, proto, comp, Table, is_comp, is_done, Mark, new, busy, done, Store, Res, ok, refused, bind, each, meet, push_if, finish, enter, alias, fresh, visit, order}
 use Rattle.spec_c_dumper.specs.rules.Machine.{Out, wrote, stuck, Machine, is_zero, pick, obind, eeach, once, mention, again, close, leaf, within, begin, allowed, look, emit}
 use Rattle.spec_c_dumper.specs.rules.Types.{Btf as Rules, table_of}
-use Rattle.spec_c_dumper.specs.rules.Writer.{Said, said, said_text, Writer}
-use Rattle.spec_c_dumper.specs.rules.Place.{with_names, put_said}
+use Rattle.spec_c_dumper.specs.rules.Writer.{said_names, said_text, Writer}
+use Rattle.spec_c_dumper.specs.rules.Place.{with_names, none_held}
 use Rattle.spec_c_dumper.proofs.rules.Closed.{Code}
 use Rattle.spec_c_dumper.proofs.rules.Refusals.{Told, told, cut_by, Tells}
 use Rattle.btf_layout.proofs.refusals.InWork.{definition_tells, forward_tells}
 use Rattle.spec_type_table.specs.declared.types.TypeTable.{TypeTable}
+use Rattle.spec_session.proofs.emission.Laws.{line_is}
 use Rattle.spec_session.specs.emission.Slices.{Slices, slices_store, slices_of, line_in, work_machine}
 use Rattle.spec_c_dumper.specs.rules.Request.{listed_out, dumped}
 
@@ -29,9 +30,9 @@ abbrev pub Listed : ℕ → Type 0
 Listed c = (12 ≤ c) × (c ≤ 18)
 
 module _ {M : Type 0} (Good : M → Type 0) where
-  pub data Fair : Out M → Type 0 where
+  pub data Fair {H : Type 0} : Out M H → Type 0 where
     goes : (m : M) → Good m → Fair (wrote m)
-    stops : (c : ℕ) → Listed c → Fair (stuck c)
+    stops : {h : H} (c : ℕ) → Listed c → Fair (stuck h c)
 
   data FairRes : Res M → Type 0 where
     goes_on : (m : M) (b : Bool) → Good m → FairRes (ok m b)
@@ -47,12 +48,12 @@ module _ {M : Type 0} (Good : M → Type 0) where
   fair_each f h [] m b g = goes_on m b g
   fair_each f h (y ∷ ys) m b g = fair_bind (f m y) (λ s' b'. each f ys s' (b || b')) (h m y g) (λ m' b' g'. fair_each f h ys m' (b || b') g')
 
-  fair_obind : (r : Out M) (k : M → Out M) → Fair r → ((m : M) → Good m → Fair (k m)) → Fair (obind r k)
+  fair_obind : {H : Type 0} (r : Out M H) (k : M → Out M H) → Fair r → ((m : M) → Good m → Fair (k m)) → Fair (obind r k)
   unfolding obind
   fair_obind _ k (goes m g) h = h m g
   fair_obind _ k (stops c l) h = stops c l
 
-  fair_eeach : (f : M → ℕ → Out M) → ((m : M) (x : ℕ) → Good m → Fair (f m x)) → (xs : List ℕ) (m : M) → Good m → Fair (eeach f xs m)
+  fair_eeach : {H : Type 0} (f : M → ℕ → Out M H) → ((m : M) (x : ℕ) → Good m → Fair (f m x)) → (xs : List ℕ) (m : M) → Good m → Fair (eeach f xs m)
   unfolding eeach
   fair_eeach f h [] m g = goes m g
   fair_eeach f h (y ∷ ys) m g = fair_obind (f m y) (eeach f ys) (h m y g) (λ m' g'. fair_eeach f h ys m' g')
@@ -107,7 +108,7 @@ module _ {M : Type 0} (Good : M → Type 0) where
     fair_order (suc n) T s x weak g = fair_visit T (λ s' y w. order K n T s' y w) (λ m y w g'. fair_order n T m y w g') s g x weak (K.get s x)
 
   -- emission
-  pub record Fairly (X : Machine M) : Type 0 where
+  pub record Fairly {H : Type 0} (X : Machine M H) : Type 0 where
     pub mark_good : (k : Mark) (x : ℕ) (m : M) → Good m → Good (X.store.mark k x m)
     pub push_good : (x : ℕ) (m : M) → Good m → Good (X.store.push x m)
     pub start_good : (room : ℕ) (m : M) → Good m → Good (X.start room m)
@@ -118,8 +119,8 @@ module _ {M : Type 0} (Good : M → Type 0) where
     pub leaf_fair : (m : M) (x : ℕ) → Good m → Fair (X.leaf_line m x)
     pub body_fair : (m : M) (x : ℕ) → Good m → Fair (X.body m x)
 
-  module _ (X : Machine M) (T : Table) (L : Fairly X) where
-    fair_once : (w : M → ℕ → Out M) → ((m : M) (x : ℕ) → Good m → Fair (w m x)) → (x : ℕ) (b : Bool) (m : M) → Good m → Fair (once X T w x b m)
+  module _ {H : Type 0} (X : Machine M H) (T : Table) (L : Fairly X) where
+    fair_once : (w : M → ℕ → Out M H) → ((m : M) (x : ℕ) → Good m → Fair (w m x)) → (x : ℕ) (b : Bool) (m : M) → Good m → Fair (once X T w x b m)
     unfolding once
     fair_once w h x true m g = goes m g
     fair_once w h x false m g = fair_obind (w m x) (λ s'. wrote (X.forwarded x s')) (h m x g) (λ m' g'. goes (X.forwarded x m') (L.forwarded_good x m' g'))
@@ -151,7 +152,7 @@ module _ {M : Type 0} (Good : M → Type 0) where
     fair_leaf true x m g = fair_obind (X.leaf_line m x) (λ s'. wrote (X.emark done x s')) (L.leaf_fair m x g) (λ m' g'. goes (X.emark done x m') (L.emark_good done x m' g'))
     fair_leaf false x m g = goes (X.emark done x m) (L.emark_good done x m g)
 
-    module _ (rec : M → ℕ → ℕ → Out M) (h : (m : M) (x cont : ℕ) → Good m → Fair (rec m x cont)) (s : M) (g : Good s) (x cont : ℕ) where
+    module _ (rec : M → ℕ → ℕ → Out M H) (h : (m : M) (x cont : ℕ) → Good m → Fair (rec m x cont)) (s : M) (g : Good s) (x cont : ℕ) where
       fair_within : (a nm : Bool) (ms : List ℕ) → Fair (within X T rec s x cont a nm ms)
       unfolding within
       fair_within true nm ms = fair_eeach (λ s' y. rec s' y (pick nm x cont)) (λ m y g'. h m y (pick nm x cont) g') ms (X.emark busy x s) (L.emark_good busy x s g)
@@ -187,17 +188,17 @@ module _ {M : Type 0} (Good : M → Type 0) where
     fair_emit zero s x cont g = stops 12 (omega arith, omega arith)
     fair_emit (suc n) s x cont g = fair_look (λ s' y c. emit X T n s' y c) (λ m y c g'. fair_emit n m y c g') s g x cont (X.eget s x)
 
-    fair_listed : (r : Res M) → FairRes r → Fair (listed_out X T r)
+    fair_listed : (h : H) (r : Res M) → FairRes r → Fair (listed_out X T h r)
     unfolding listed_out
-    fair_listed _ (goes_on m b g) =
+    fair_listed h _ (goes_on m b g) =
         fair_obind (eeach (λ s y. emit X T 512 s y 0) (X.store.list m) m) (λ s. wrote (X.start 0 s))
         (fair_eeach (λ s y. emit X T 512 s y 0) (λ s y g'. fair_emit 512 s y 0 g') (X.store.list m) m g)
         (λ s g'. goes (X.start 0 s) (L.start_good 0 s g'))
-    fair_listed _ (ends c l) = stops c l
+    fair_listed h _ (ends c l) = stops c l
 
     pub fair_dumped : (m : M) (x : ℕ) → Good m → Fair (dumped X T m x)
     unfolding dumped
-    fair_dumped m x g = fair_listed (order X.store 512 T m x false) (fair_order X.store L.mark_good L.push_good 512 T m x false g)
+    fair_dumped m x g = fair_listed (X.held m) (order X.store 512 T m x false) (fair_order X.store L.mark_good L.push_good 512 T m x false g)
 
 -- ---- over the lent slices: the text has k bytes, and the place is not past its end
 abbrev pub Inside : ℕ → Slices → Type 0
@@ -211,28 +212,24 @@ listed_code c (inr (inr (inr e))) = (omega arith, omega arith)
 
 -- a line, where there is a place for it
 module _ (n : ℕ) (t : List ℕ) (at : ℕ) (h : at ≤ length t) (k : ℕ) (long : length t ≡ k) (u : List ℕ) where
-  fair_told : (x : Text) → length (bytes x) ≤ length t - at → Told x → Fair (Inside k) (slices_of n (with_names u (written t at x)))
+  fair_told : (x : Text) → length (bytes x) ≤ length t - at → Told Code x → Fair (Inside k) (slices_of n (with_names none_held u (written t at x)))
   unfolding slices_of with_names written bytes
   fair_told _ l (told a) = goes (record { work = u; text = place t at a; at = at + length a; len = n }) (omega (arith, place_length t at a (omega arith)), place_length t at a (omega arith) ∙ long)
   fair_told _ l (cut_by a c q) = stops c (listed_code c q)
 
-  fair_full : Fair (Inside k) (slices_of n (with_names u (stopped 17)))
+  fair_full : Fair (Inside k) (slices_of n (with_names none_held u (stopped 17)))
   unfolding slices_of with_names
   fair_full = stops 17 (omega arith, omega arith)
 
-  fair_put : (x : Text) → Told x → Fair (Inside k) (slices_of n (with_names u (put_text t (Ok at) x)))
+  fair_put : (x : Text) → Told Code x → Fair (Inside k) (slices_of n (with_names none_held u (put_text t (Ok at) x)))
   fair_put x q =
       ⊎_elim
       (λ l. rw (put_none t at x l) fair_full)
       (λ l. rw (put_fits t at x l) (fair_told x l q))
       (cases_lt (length t - at) (length (bytes x)))
 
-pub fair_line : (k : ℕ) (v : Writer (List ℕ)) → Tells v → (m : Slices) → Inside k m → Fair (Inside k) (line_in v m)
-unfolding line_in put_said said_text
-fair_line k v h m g = go (v m.work) (h m.work)
-  where
-    go : (q : Said (List ℕ)) → Told (said_text q) → Fair (Inside k) (slices_of m.len (put_said m.text (Ok m.at) q))
-    go (said u x) q = fair_put m.len m.text m.at g.0 k g.1 u x q
+pub fair_line : (k : ℕ) (v : Writer (List ℕ)) → Tells Code v → (m : Slices) → Inside k m → Fair (Inside k) (line_in v m)
+fair_line k v h m g = subst (Fair (Inside k)) (sym (line_is v m)) (fair_put m.len m.text m.at g.0 k g.1 (said_names (v m.work)) (said_text (v m.work)) (h m.work))
 
 module _ (b : TypeTable) (B : Rules) where
   fairly : (k : ℕ) → Fairly (Inside k) (work_machine b B)

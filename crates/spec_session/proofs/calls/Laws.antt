@@ -93,16 +93,16 @@ module _ (p modes : ℕ) (s w t : List ℕ) where
     open_sound n e r = ap (opened_call r (length s) (length w) p modes) (sym (ap (λ (q : Result Counts Refusal). open_out q w' t') e) ∙ eo)
 
 -- ---- one request
-abbrev slices_or : Out Slices → Slices → Slices
+abbrev slices_or : Out Slices (Unit {0}) → Slices → Slices
 slices_or (wrote m) d = m
-slices_or (stuck c) d = d
+slices_or (stuck h c) d = d
 
-pub stuck_listed : (k : ℕ) (o : Out Slices) → Fair (Inside k) o → (c : ℕ) → o ≡ stuck c → Listed c
+pub stuck_listed : (k : ℕ) (o : Out Slices (Unit {0})) → Fair (Inside k) o → {h : Unit {0}} (c : ℕ) → o ≡ stuck h c → Listed c
 stuck_listed k _ (goes m g) c e = let z : ◌≡◌ {A = ℕ} 0 1 = cc in absurd (omega arith)
 stuck_listed k _ (stops d l) c e = let q : d ≡ c = cc in (omega arith, omega arith)
 
-wrote_inside : (k : ℕ) (o : Out Slices) → Fair (Inside k) o → (m : Slices) → o ≡ wrote m → Inside k m
-wrote_inside k _ (goes m g) n e = let q : m ≡ n = ap (λ (o : Out Slices). slices_or o m) e in subst (Inside k) q g
+wrote_inside : (k : ℕ) (o : Out Slices (Unit {0})) → Fair (Inside k) o → (m : Slices) → o ≡ wrote m → Inside k m
+wrote_inside k _ (goes m g) n e = let q : m ≡ n = ap (λ (o : Out Slices (Unit {0})). slices_or o m) e in subst (Inside k) q g
 wrote_inside k _ (stops d l) n e = let z : ◌≡◌ {A = ℕ} 0 1 = cc in absurd (omega arith)
 
 pub mid_place : (t u : List ℕ) (len k : ℕ) → length u ≡ k → put_mid len k t u ≡ place t len u
@@ -112,7 +112,7 @@ mid_place t u len k e =
 
 module _ (b : TypeTable) (s w : List ℕ) (id : ℕ) where
   -- the request on a slice
-  abbrev pub asked : List ℕ → Out Slices
+  abbrev pub asked : List ℕ → Out Slices (Unit {0})
   asked u = dumped (work_machine b (btf_of b s w)) (table_of (btf_of b s w)) (record { work = w; text = u; at = 0; len = 0 }) id
 
   pub fair_asked : (u : List ℕ) → Fair (Inside (length u)) (asked u)
@@ -177,7 +177,7 @@ module _ (b : TypeTable) (s w u : List ℕ) (id : ℕ) where
   abbrev way : Slices → ℕ → Bool → Res Slices
   way m y weak = order slices_store 511 (table_in b s w) m y weak
 
-  idle_fresh : (nd : Node) → is_ignored nd ≡ true → listed_out (work_machine b (btf_of b s w)) (table_in b s w) (fresh slices_store (table_in b s w) way start id false nd) ≡ wrote start
+  idle_fresh : (nd : Node) → is_ignored nd ≡ true → listed_out (work_machine b (btf_of b s w)) (table_in b s w) tt (fresh slices_store (table_in b s w) way start id false nd) ≡ wrote start
   unfolding is_ignored fresh listed_out obind eeach work_machine slices_store work_store emptied from
   idle_fresh ignored h = refl
   idle_fresh plain h = absurd (true≢false (sym h))
@@ -188,7 +188,7 @@ module _ (b : TypeTable) (s w u : List ℕ) (id : ℕ) where
   idle_fresh (proto ts) h = absurd (true≢false (sym h))
   idle_fresh (comp ms) h = absurd (true≢false (sym h))
 
-  idle_visit : (k : Mark) → is_idle k ((table_in b s w).node id) ≡ true → listed_out (work_machine b (btf_of b s w)) (table_in b s w) (visit slices_store (table_in b s w) way start id false k) ≡ wrote start
+  idle_visit : (k : Mark) → is_idle k ((table_in b s w).node id) ≡ true → listed_out (work_machine b (btf_of b s w)) (table_in b s w) tt (visit slices_store (table_in b s w) way start id false k) ≡ wrote start
   unfolding is_idle visit listed_out obind eeach work_machine slices_store work_store emptied from
   idle_visit new h = idle_fresh ((table_in b s w).node id) h
   idle_visit busy h = absurd (true≢false (sym h))

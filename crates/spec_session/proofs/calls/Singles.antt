@@ -11,18 +11,18 @@ use lib.Dec.{eqb, leb, ltb}
 use lib.Seq.{take-append-le, take-append-add, length-take-le}
 use borrow.Author.Tests.{le-leb, eq-eqb, eqb-true, ltb-false}
 use borrow.Rule.Slice.PartMut.{mid_len}
-use Rattle.std.specs.Prelude.{Ok}
 use Rattle.spec_bytes.specs.words.Words.{get_word}
 use Rattle.spec_bytes.specs.text.Placed.{Out as TextOut, done as written_to, stopped, place}
 use Rattle.spec_bytes.proofs.words.Laws.{put_length}
 use Rattle.spec_bytes.proofs.text.TextLaws.{place_length}
 use Rattle.spec_c_dumper.specs.rules.Machine.{Out}
 use Rattle.spec_c_dumper.specs.rules.Types.{Btf as Rules, table_of}
-use Rattle.spec_c_dumper.specs.rules.Writer.{Said, said, said_names, Writer}
-use Rattle.spec_c_dumper.specs.rules.Place.{with_names, put_said}
+use Rattle.spec_c_dumper.specs.rules.Writer.{said_names, Writer}
+use Rattle.spec_c_dumper.specs.rules.Place.{with_names, none_held}
 use Rattle.spec_c_dumper.specs.alignment_once.Writers.{definition_once, forward_once}
 use Rattle.btf_layout.specs.asked.Asked.{work_asks}
 use Rattle.btf_layout.proofs.refusals.InWork.{definition_keeps, forward_keeps, definition_tells, forward_tells}
+use Rattle.spec_c_dumper.proofs.rules.Closed.{Code}
 use Rattle.spec_c_dumper.proofs.rules.Keeps.{Keeps}
 use Rattle.spec_c_dumper.proofs.rules.Refusals.{Tells}
 use Rattle.spec_type_table.specs.declared.types.TypeTable.{TypeTable}
@@ -31,6 +31,7 @@ use Rattle.spec_type_table.specs.Numbers.{number_at}
 use Rattle.spec_type_table.specs.Table.{btf_of, type_version_in, enumerator_of, value_version_in, work_naming}
 use Rattle.spec_type_table.proofs.Frame.{more_length}
 use Rattle.c_dumper_dependency_order.specs.order_state.Work.{work_store}
+use Rattle.spec_session.proofs.emission.Laws.{line_is}
 use Rattle.spec_session.specs.emission.Slices.{Slices, slices_store, slices_of, line_in, work_machine}
 use Rattle.spec_c_dumper.specs.rules.Request.{dumped}
 use Rattle.btf_open_causes.specs.header.Header.{btf_of as settings_of}
@@ -69,20 +70,15 @@ value_length types e w = go (ltb (types + e) 4294967296) refl
 abbrev Sized : ℕ → ℕ → Slices → Type 0
 Sized k j m = (m.at ≤ length m.text) × (length m.text ≡ k) × (length m.work ≡ j)
 
-sized_out : (k j n : ℕ) (u : List ℕ) → length u ≡ j → (o : TextOut) → Fair (Inside k) (slices_of n (with_names u o)) → Fair (Sized k j) (slices_of n (with_names u o))
+sized_out : (k j n : ℕ) (u : List ℕ) → length u ≡ j → (o : TextOut) → Fair (Inside k) (slices_of n (with_names none_held u o)) → Fair (Sized k j) (slices_of n (with_names none_held u o))
 unfolding slices_of with_names
 sized_out k j n u e (written_to t at) (goes _ g) = goes _ (g.0, g.1, e)
 sized_out k j n u e (stopped c) (stops _ l) = stops c l
 
-sized_line : (k j : ℕ) (v : Writer (List ℕ)) → Tells v → Keeps (λ (u : List ℕ). length u) v → (m : Slices) → Sized k j m → Fair (Sized k j) (line_in v m)
-unfolding line_in put_said said_names
-sized_line k j v h keeps m g = go (v m.work) refl
-  where
-    go : (q : Said (List ℕ)) → v m.work ≡ q → Fair (Sized k j) (line_in v m)
-    go (said u x) e =
-        let same : length u ≡ j = sym (ap (λ (s : Said (List ℕ)). length (said_names s)) e) ∙ keeps m.work ∙ g.2 in
-        subst (λ (s : Said (List ℕ)). Fair (Sized k j) (slices_of m.len (put_said m.text (Ok m.at) s))) (sym e)
-        (sized_out k j m.len u same _ (subst (λ (s : Said (List ℕ)). Fair (Inside k) (slices_of m.len (put_said m.text (Ok m.at) s))) e (fair_line k v h m (g.0, g.1))))
+sized_line : (k j : ℕ) (v : Writer (List ℕ)) → Tells Code v → Keeps (λ (u : List ℕ). length u) v → (m : Slices) → Sized k j m → Fair (Sized k j) (line_in v m)
+sized_line k j v h keeps m g =
+    subst (Fair (Sized k j)) (sym (line_is v m))
+    (sized_out k j m.len (said_names (v m.work)) ((keeps m.work).0 ∙ g.2) _ (subst (Fair (Inside k)) (line_is v m) (fair_line k v h m (g.0, g.1))))
 
 module _ (b : TypeTable) (B : Rules) where
   keeps_def : (x : ℕ) → Keeps (λ (u : List ℕ). length u) (definition_once (work_asks b.types B) (work_naming b) B x (B.type_by_id x))
@@ -125,7 +121,7 @@ placed_take t u len at h k =
     ∙ ap (λ (l : List ℕ). take len t ++ l) (take-append-le at u (drop (len + length u) t) k)
 
 module _ (wn tn len : ℕ) (t t' : List ℕ) (lt : length t ≡ tn) (lt' : length t' ≡ tn) (high : len ≤ tn) (same : take len t ≡ take len t') where
-  came_pair : (v k : ℕ) → len + k ≤ tn → (o o' : Out Slices) → Both Like o o' → Fair (Sized k wn) o → Pair wn tn (came_to len v t o) (came_to len v t' o')
+  came_pair : (v k : ℕ) → len + k ≤ tn → (o o' : Out Slices (Unit {0})) → Both Like o o' → Fair (Sized k wn) o → Pair wn tn (came_to len v t o) (came_to len v t' o')
   unfolding came_to
   came_pair v k fits _ _ (go_both _ _ (like w u u' at ln h long eq)) (goes _ g) =
       let room : len + length u ≤ length t = omega (arith, g.1) in

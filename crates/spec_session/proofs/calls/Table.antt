@@ -104,7 +104,7 @@ pub rules_by_table : RulesByTable
 unfolding order emit meet mention allowed get_size_of get_align_of emit_type_decl emit_type_chain emit_composite_def chain_of off_align checked measured ask_then order_within allows number
 rules_by_table = record {
   deep_order = λ St K T s x weak. refl;
-  deep_emit = λ M X T s x cont. refl;
+  deep_emit = λ M H X T s x cont. refl;
   deep_size = λ B id. refl;
   deep_align = λ B id. refl;
   deep_decl = λ U N B id fname lvl. refl;
@@ -112,8 +112,8 @@ rules_by_table = record {
   deep_body = λ U N B id is_struct name sz ms lvl. refl;
   long_chain = λ B id c. refl;
   cycle_order = λ St s. refl;
-  cycle_emit = λ M X T x s. refl;
-  no_name = λ M X T rec s x cont. refl;
+  cycle_emit = λ M H X T x s. refl;
+  no_name = λ M H X T rec s x cont. refl;
   align_zero_lem = λ bit_offset rest. refl;
   overflows = λ n h. rw (h, checked) refl;
   full = λ t at x h g. full_at t at x (leb-true at (length t) h) (leb-false (at + length (bytes x)) (length t) g);

@@ -17,16 +17,17 @@ use Rattle.spec_bytes.proofs.text.TextLaws.{put_fits, put_none, place_length}
 use Rattle.spec_c_dumper.specs.rules.Order.{Node, ignored, plain, listed, through, ptr, tdef, proto, comp, Table, is_comp, is_done, Mark, new, busy, done, Store, Res, ok, refused, bind, each, meet, push_if, finish, enter, alias, fresh, visit, order}
 use Rattle.spec_c_dumper.specs.rules.Machine.{Out, wrote, stuck, Machine, is_zero, pick, obind, eeach, once, mention, again, close, leaf, within, begin, allowed, look, emit}
 use Rattle.spec_c_dumper.specs.rules.Types.{Btf as Rules, table_of}
-use Rattle.spec_c_dumper.specs.rules.Writer.{Said, said, Writer}
-use Rattle.spec_c_dumper.specs.rules.Place.{with_names, put_said}
+use Rattle.spec_c_dumper.specs.rules.Writer.{said_text, said_names, Writer}
+use Rattle.spec_c_dumper.specs.rules.Place.{with_names, none_held}
 use Rattle.spec_type_table.specs.declared.types.TypeTable.{TypeTable}
+use Rattle.spec_session.proofs.emission.Laws.{line_is, slices}
 use Rattle.spec_session.specs.emission.Slices.{Slices, slices_store, slices_of, line_in, work_machine}
 use Rattle.spec_c_dumper.specs.rules.Request.{listed_out, dumped}
 
 module _ {M : Type 0} (R : M → M → Type 0) where
-  pub data Both : Out M → Out M → Type 0 where
+  pub data Both {H : Type 0} : Out M H → Out M H → Type 0 where
     goes : (m m' : M) → R m m' → Both (wrote m) (wrote m')
-    stops : (c : ℕ) → Both (stuck c) (stuck c)
+    stops : {h h' : H} (c : ℕ) → Both (stuck h c) (stuck h' c)
 
   data BothRes : Res M → Res M → Type 0 where
     goes_on : (m m' : M) (b : Bool) → R m m' → BothRes (ok m b) (ok m' b)
@@ -42,18 +43,18 @@ module _ {M : Type 0} (R : M → M → Type 0) where
   both_each f h [] m m' b g = goes_on m m' b g
   both_each f h (y ∷ ys) m m' b g = both_bind (f m y) (f m' y) (λ s b'. each f ys s (b || b')) (λ s b'. each f ys s (b || b')) (h m m' y g) (λ s s' b' g'. both_each f h ys s s' (b || b') g')
 
-  both_obind : (r r' : Out M) (k k' : M → Out M) → Both r r' → ((m m' : M) → R m m' → Both (k m) (k' m')) → Both (obind r k) (obind r' k')
+  both_obind : {H : Type 0} (r r' : Out M H) (k k' : M → Out M H) → Both r r' → ((m m' : M) → R m m' → Both (k m) (k' m')) → Both (obind r k) (obind r' k')
   unfolding obind
   both_obind _ _ k k' (goes m m' g) h = h m m' g
   both_obind _ _ k k' (stops c) h = stops c
 
-  both_eeach : (f : M → ℕ → Out M) → ((m m' : M) (x : ℕ) → R m m' → Both (f m x) (f m' x)) → (xs : List ℕ) (m m' : M) → R m m' → Both (eeach f xs m) (eeach f xs m')
+  both_eeach : {H : Type 0} (f : M → ℕ → Out M H) → ((m m' : M) (x : ℕ) → R m m' → Both (f m x) (f m' x)) → (xs : List ℕ) (m m' : M) → R m m' → Both (eeach f xs m) (eeach f xs m')
   unfolding eeach
   both_eeach f h [] m m' g = goes m m' g
   both_eeach f h (y ∷ ys) m m' g = both_obind (f m y) (f m' y) (eeach f ys) (eeach f ys) (h m m' y g) (λ s s' g'. both_eeach f h ys s s' g')
 
   -- what is asked of a machine
-  pub record Alike (X : Machine M) : Type 0 where
+  pub record Alike {H : Type 0} (X : Machine M H) : Type 0 where
     pub get_same : (m m' : M) (x : ℕ) → R m m' → X.store.get m x ≡ X.store.get m' x
     pub list_same : (m m' : M) → R m m' → X.store.list m ≡ X.store.list m'
     pub mark_both : (k : Mark) (x : ℕ) (m m' : M) → R m m' → R (X.store.mark k x m) (X.store.mark k x m')
@@ -68,7 +69,7 @@ module _ {M : Type 0} (R : M → M → Type 0) where
     pub leaf_both : (m m' : M) (x : ℕ) → R m m' → Both (X.leaf_line m x) (X.leaf_line m' x)
     pub body_both : (m m' : M) (x : ℕ) → R m m' → Both (X.body m x) (X.body m' x)
 
-  module _ (X : Machine M) (T : Table) (L : Alike X) where
+  module _ {H : Type 0} (X : Machine M H) (T : Table) (L : Alike X) where
     abbrev K : Store M
     K = X.store
 
@@ -129,7 +130,7 @@ module _ {M : Type 0} (R : M → M → Type 0) where
         (both_visit (λ m y w. order K n T m y w) (λ m m' y w g'. both_order n m m' y w g') s s' g x weak (K.get s x))
 
     -- emission
-    both_once : (w : M → ℕ → Out M) → ((m m' : M) (x : ℕ) → R m m' → Both (w m x) (w m' x)) → (x : ℕ) (b : Bool) (m m' : M) → R m m' → Both (once X T w x b m) (once X T w x b m')
+    both_once : (w : M → ℕ → Out M H) → ((m m' : M) (x : ℕ) → R m m' → Both (w m x) (w m' x)) → (x : ℕ) (b : Bool) (m m' : M) → R m m' → Both (once X T w x b m) (once X T w x b m')
     unfolding once
     both_once w h x true m m' g = goes m m' g
     both_once w h x false m m' g = both_obind (w m x) (w m' x) (λ s. wrote (X.forwarded x s)) (λ s. wrote (X.forwarded x s)) (h m m' x g) (λ s s' g'. goes (X.forwarded x s) (X.forwarded x s') (L.forwarded_both x s s' g'))
@@ -163,7 +164,7 @@ module _ {M : Type 0} (R : M → M → Type 0) where
     both_leaf true x m m' g = both_obind (X.leaf_line m x) (X.leaf_line m' x) (λ s. wrote (X.emark done x s)) (λ s. wrote (X.emark done x s)) (L.leaf_both m m' x g) (λ s s' g'. goes (X.emark done x s) (X.emark done x s') (L.emark_both done x s s' g'))
     both_leaf false x m m' g = goes (X.emark done x m) (X.emark done x m') (L.emark_both done x m m' g)
 
-    module _ (rec : M → ℕ → ℕ → Out M) (h : (m m' : M) (x cont : ℕ) → R m m' → Both (rec m x cont) (rec m' x cont)) (s s' : M) (g : R s s') (x cont : ℕ) where
+    module _ (rec : M → ℕ → ℕ → Out M H) (h : (m m' : M) (x cont : ℕ) → R m m' → Both (rec m x cont) (rec m' x cont)) (s s' : M) (g : R s s') (x cont : ℕ) where
       both_within : (a nm : Bool) (ms : List ℕ) → Both (within X T rec s x cont a nm ms) (within X T rec s' x cont a nm ms)
       unfolding within
       both_within true nm ms = both_eeach (λ m y. rec m y (pick nm x cont)) (λ m m' y g'. h m m' y (pick nm x cont) g') ms (X.emark busy x s) (X.emark busy x s') (L.emark_both busy x s s' g)
@@ -208,17 +209,17 @@ module _ {M : Type 0} (R : M → M → Type 0) where
         subst (λ (k : Mark). Both (look X T (λ m y c. emit X T n m y c) s x cont (X.eget s x)) (look X T (λ m y c. emit X T n m y c) s' x cont k)) (L.eget_same s s' x g)
         (both_look (λ m y c. emit X T n m y c) (λ m m' y c g'. both_emit n m m' y c g') s s' g x cont (X.eget s x))
 
-    both_listed : (r r' : Res M) → BothRes r r' → Both (listed_out X T r) (listed_out X T r')
+    both_listed : (h h' : H) (r r' : Res M) → BothRes r r' → Both (listed_out X T h r) (listed_out X T h' r')
     unfolding listed_out
-    both_listed _ _ (goes_on m m' b g) =
+    both_listed h h' _ _ (goes_on m m' b g) =
         both_obind (eeach (λ s y. emit X T 512 s y 0) (K.list m) m) (eeach (λ s y. emit X T 512 s y 0) (K.list m') m') (λ s. wrote (X.start 0 s)) (λ s. wrote (X.start 0 s))
         (subst (λ (l : List ℕ). Both (eeach (λ s y. emit X T 512 s y 0) (K.list m) m) (eeach (λ s y. emit X T 512 s y 0) l m')) (L.list_same m m' g) (both_eeach (λ s y. emit X T 512 s y 0) (λ s s' y g'. both_emit 512 s s' y 0 g') (K.list m) m m' g))
         (λ s s' g'. goes (X.start 0 s) (X.start 0 s') (L.start_both 0 s s' g'))
-    both_listed _ _ (ends c) = stops c
+    both_listed h h' _ _ (ends c) = stops c
 
     pub both_dumped : (m m' : M) (x : ℕ) → R m m' → Both (dumped X T m x) (dumped X T m' x)
     unfolding dumped
-    both_dumped m m' x g = both_listed (order K 512 T m x false) (order K 512 T m' x false) (both_order 512 m m' x false g)
+    both_dumped m m' x g = both_listed (X.held m) (X.held m') (order K 512 T m x false) (order K 512 T m' x false) (both_order 512 m m' x false g)
 
 -- ---- over the lent slices: two sheets that differ only past the place
 pub data Like : Slices → Slices → Type 0 where
@@ -229,7 +230,7 @@ placed_head : (t : List ℕ) (at : ℕ) (a : List ℕ) → at ≤ length t → t
 placed_head t at a h = take_at (take at t ++ a) (drop (at + length a) t) (at + length a) (length-append (take at t) a ∙ ap (λ (k : ℕ). k + length a) (length-take-le at t h))
 
 module _ (n : ℕ) (t t' : List ℕ) (at : ℕ) (h : at ≤ length t) (long : length t ≡ length t') (same : take at t ≡ take at t') (u : List ℕ) where
-  both_written : (x : Text) → length (bytes x) ≤ length t - at → Both Like (slices_of n (with_names u (written t at x))) (slices_of n (with_names u (written t' at x)))
+  both_written : (x : Text) → length (bytes x) ≤ length t - at → Both Like (slices_of n (with_names none_held u (written t at x))) (slices_of n (with_names none_held u (written t' at x)))
   unfolding slices_of with_names written bytes
   both_written (whole a) l =
       let l' : at + length a ≤ length t' = omega arith in
@@ -238,11 +239,11 @@ module _ (n : ℕ) (t t' : List ℕ) (at : ℕ) (h : at ≤ length t) (long : le
       (placed_head t at a h ∙ ap (λ (p : List ℕ). p ++ a) same ∙ sym (placed_head t' at a (omega arith))))
   both_written (cut a c) l = stops c
 
-  both_full : Both Like (slices_of n (with_names u (stopped 17))) (slices_of n (with_names u (stopped 17)))
+  both_full : Both Like (slices_of n (with_names none_held u (stopped 17))) (slices_of n (with_names none_held u (stopped 17)))
   unfolding slices_of with_names
   both_full = stops 17
 
-  both_put : (x : Text) → Both Like (slices_of n (with_names u (put_text t (Ok at) x))) (slices_of n (with_names u (put_text t' (Ok at) x)))
+  both_put : (x : Text) → Both Like (slices_of n (with_names none_held u (put_text t (Ok at) x))) (slices_of n (with_names none_held u (put_text t' (Ok at) x)))
   both_put x =
       ⊎_elim
       (λ l. rw (put_none t at x l, put_none t' at x (omega arith)) both_full)
@@ -250,11 +251,9 @@ module _ (n : ℕ) (t t' : List ℕ) (at : ℕ) (h : at ≤ length t) (long : le
       (cases_lt (length t - at) (length (bytes x)))
 
 both_line : (v : Writer (List ℕ)) (m m' : Slices) → Like m m' → Both Like (line_in v m) (line_in v m')
-unfolding line_in put_said
-both_line v _ _ (like w t t' at len h long same) = go (v w)
-  where
-    go : (q : Said (List ℕ)) → Both Like (slices_of len (put_said t (Ok at) q)) (slices_of len (put_said t' (Ok at) q))
-    go (said u x) = both_put len t t' at h long same u x
+both_line v _ _ (like w t t' at len h long same) =
+    subst (λ (o : Out Slices (Unit {0})). Both Like o (line_in v (slices len at t' w))) (sym (line_is v (slices len at t w)))
+    (subst (Both Like _) (sym (line_is v (slices len at t' w))) (both_put len t t' at h long same (said_names (v w)) (said_text (v w))))
 
 module _ (b : TypeTable) (B : Rules) where
   alike : Alike Like (work_machine b B)

@@ -19,10 +19,11 @@ use Rattle.spec_c_dumper.specs.rules.Order.{Table, Lawful, Framed}
 use Rattle.spec_c_dumper.specs.rules.Machine.{Out, wrote, stuck, Machine, Fine, OHolds, ogood, obad, Same, OrderKeeps, Defines, MLawful}
 use Rattle.spec_c_dumper.specs.rules.Types.{Name, BtfType, Btf as Rules}
 use Rattle.spec_c_dumper.specs.rules.Names.{Space, Resolved}
-use Rattle.spec_c_dumper.specs.rules.Writer.{Said, said, said_text, said_names, Writer}
-use Rattle.spec_c_dumper.specs.rules.Place.{with_names, put_said}
+use Rattle.spec_c_dumper.specs.rules.Writer.{said_text, said_names, Writer}
+use Rattle.spec_c_dumper.specs.rules.Place.{with_names, none_held}
 use Rattle.spec_c_dumper.specs.alignment_once.Writers.{definition_once, forward_once}
 use Rattle.btf_layout.specs.asked.Asked.{work_asks}
+use Rattle.spec_c_dumper.proofs.rules.Closed.{Code}
 use Rattle.spec_c_dumper.proofs.rules.Keeps.{Keeps}
 use Rattle.btf_layout.proofs.refusals.InWork.{definition_keeps as def_keeps, forward_keeps as fwd_keeps, definition_tells, forward_tells}
 use Rattle.spec_c_dumper.proofs.rules.Refusals.{Told, told, cut_by, Tells}
@@ -34,6 +35,7 @@ use Rattle.spec_type_table.proofs.Laws.{place_type, place_enum}
 use Rattle.spec_type_table.proofs.Frame.{field_other, counted_other, more_length}
 use Rattle.c_dumper_dependency_order.specs.order_state.Work.{Marks, mark_of, code, work_store}
 use Rattle.c_dumper_dependency_order.proofs.order_state.Lawful.{work_lawful, mark_code}
+use Rattle.spec_session.proofs.emission.Laws.{line_is}
 use Rattle.spec_session.specs.emission.Slices.{Slices, marks_in, slices_store, emptied, slices_of, line_in, work_machine}
 use Rattle.spec_c_dumper.specs.rules.Request.{dumped}
 use Rattle.spec_session.specs.emission.Tagged.{Tagged, tagged, tagged_machine}
@@ -56,7 +58,7 @@ module _ {Z : Type 0} (P : List ℕ → Z) (field4 : (w : List ℕ) (x v : ℕ) 
       u : List ℕ
       u = count_raised (class_p b.types) (count_p b.types) w id
 
-      go : (t : Bool) → P (elim t as (λ z. Resolved (List ℕ)) [ false ↦ record { version = get_field w id 4; names = w } | true ↦ record { version = n; names = put_field u id 4 n } ]).names ≡ P w
+      go : (t : Bool) → P (elim t as (λ z. Resolved (List ℕ)) [ false ↦ record { passes = false; version = get_field w id 4; names = w } | true ↦ record { passes = false; version = n; names = put_field u id 4 n } ]).names ≡ P w
       go false = refl
       go true = field4 u id n ∙ counts b.types w id
 
@@ -70,7 +72,7 @@ module _ {Z : Type 0} (P : List ℕ → Z) (field4 : (w : List ℕ) (x v : ℕ) 
       u : List ℕ
       u = count_raised (class_p b.types) (count_p b.types) w (b.types + enumerator_of w id i)
 
-      go : (t : Bool) → P (elim t as (λ z. Resolved (List ℕ)) [ true ↦ record { version = n; names = u } | false ↦ record { version = 0; names = w } ]).names ≡ P w
+      go : (t : Bool) → P (elim t as (λ z. Resolved (List ℕ)) [ true ↦ record { passes = false; version = n; names = u } | false ↦ record { passes = false; version = 0; names = w } ]).names ≡ P w
       go false = refl
       go true = counts b.types w (b.types + enumerator_of w id i)
 
@@ -118,9 +120,9 @@ apart_13 types c j e =
     (cases_lt c types)
 
 -- ---- a line
-pub data Line (m : Slices) : Out Slices → Type 0 where
+pub data Line (m : Slices) : Out Slices (Unit {0}) → Type 0 where
   lined : {m' : Slices} → length m'.work ≡ length m.work → words 1 m'.work ≡ words 1 m.work → words 13 m'.work ≡ words 13 m.work → m'.at ≤ length m'.text → Line m (wrote m')
-  unlined : {c : ℕ} → Fine c → Line m (stuck c)
+  unlined : {h : Unit {0}} {c : ℕ} → Fine c → Line m (stuck h c)
 
 17_fine : Fine 17
 17_fine e = omega arith
@@ -132,26 +134,22 @@ code_fine c (inr (inr (inl e))) f = omega arith
 code_fine c (inr (inr (inr e))) f = omega arith
 
 module _ (m : Slices) (inside : m.at ≤ length m.text) (u : List ℕ) (long : length u ≡ length m.work) (one : words 1 u ≡ words 1 m.work) (state : words 13 u ≡ words 13 m.work) where
-  put_line : (x : Text) → Told x → Line m (slices_of m.len (with_names u (put_text m.text (Ok m.at) x)))
+  put_line : (x : Text) → Told Code x → Line m (slices_of m.len (with_names none_held u (put_text m.text (Ok m.at) x)))
   unfolding slices_of with_names written bytes
   put_line _ (told a) =
       ⊎_elim
-      (λ l. subst (λ (o : TextOut). Line m (slices_of m.len (with_names u o))) (sym (put_none m.text m.at (whole a) l)) (unlined 17_fine))
-      (λ l. subst (λ (o : TextOut). Line m (slices_of m.len (with_names u o))) (sym (put_fits m.text m.at (whole a) l)) (lined long one state (omega (arith, place_length m.text m.at a (omega arith)))))
+      (λ l. subst (λ (o : TextOut). Line m (slices_of m.len (with_names none_held u o))) (sym (put_none m.text m.at (whole a) l)) (unlined 17_fine))
+      (λ l. subst (λ (o : TextOut). Line m (slices_of m.len (with_names none_held u o))) (sym (put_fits m.text m.at (whole a) l)) (lined long one state (omega (arith, place_length m.text m.at a (omega arith)))))
       (cases_lt (length m.text - m.at) (length a))
   put_line _ (cut_by a c q) =
       ⊎_elim
-      (λ l. subst (λ (o : TextOut). Line m (slices_of m.len (with_names u o))) (sym (put_none m.text m.at (cut a c) l)) (unlined 17_fine))
-      (λ l. subst (λ (o : TextOut). Line m (slices_of m.len (with_names u o))) (sym (put_fits m.text m.at (cut a c) l)) (unlined (code_fine c q)))
+      (λ l. subst (λ (o : TextOut). Line m (slices_of m.len (with_names none_held u o))) (sym (put_none m.text m.at (cut a c) l)) (unlined 17_fine))
+      (λ l. subst (λ (o : TextOut). Line m (slices_of m.len (with_names none_held u o))) (sym (put_fits m.text m.at (cut a c) l)) (unlined (code_fine c q)))
       (cases_lt (length m.text - m.at) (length a))
 
-line_holds : (v : Writer (List ℕ)) → Keeps length v → Keeps (words 1) v → Keeps (words 13) v → Tells v → (m : Slices) → m.at ≤ length m.text → Line m (line_in v m)
-unfolding line_in put_said said_names said_text
-line_holds v long one state tells m inside = go (v m.work) (long m.work) (one m.work) (state m.work) (tells m.work)
-  where
-    go : (s : Said (List ℕ)) → length (said_names s) ≡ length m.work → words 1 (said_names s) ≡ words 1 m.work → words 13 (said_names s) ≡ words 13 m.work → Told (said_text s)
-        → Line m (slices_of m.len (put_said m.text (Ok m.at) s))
-    go (said u x) a b c h = put_line m inside u a b c x h
+line_holds : (v : Writer (List ℕ)) → Keeps length v → Keeps (words 1) v → Keeps (words 13) v → Tells Code v → (m : Slices) → m.at ≤ length m.text → Line m (line_in v m)
+line_holds v long one state tells m inside =
+    subst (Line m) (sym (line_is v m)) (put_line m inside (said_names (v m.work)) (long m.work).0 (one m.work).0 (state m.work).0 (said_text (v m.work)) (tells m.work))
 
 module _ (b : TypeTable) (B : Rules) (m : Slices) (inside : m.at ≤ length m.text) (x : ℕ) where
   forward_line : Line m (line_in (forward_once (work_asks b.types B) (work_naming b) B x (B.type_by_id x)) m)
@@ -191,7 +189,7 @@ module _ (n : ℕ) where
     pub inside : m.slices.at ≤ length m.slices.text
 
   module _ (small : n ≤ 4294967295) (b : TypeTable) (B : Rules) where
-    abbrev X : Machine Tagged
+    abbrev X : Machine Tagged (Unit {0})
     X = tagged_machine b B
 
     abbrev marks_of : Tagged → Marks
@@ -219,7 +217,7 @@ module _ (n : ℕ) where
     }
 
     -- a line that defines nothing, and one that defines x
-    line_same : (m : Tagged) → Fit m → (o : Out Slices) → Line m.slices o → OHolds (Same X Fit m) (tagged m.tags o)
+    line_same : (m : Tagged) → Fit m → (o : Out Slices (Unit {0})) → Line m.slices o → OHolds (Same X Fit m) (tagged m.tags o)
     unfolding tagged tagged_machine slices_store work_store work_machine
     line_same m g (wrote m') (lined a c d i) = ogood {s = record { slices = m'; tags = m.tags }} (record {
       good = record { long = omega (arith, a, g.long); inside = i };
@@ -227,9 +225,9 @@ module _ (n : ℕ) where
       egets = λ k. ap mark_of (ap (λ (f : ℕ → ℕ). f k) d);
       tags_same = refl;
     })
-    line_same m g (stuck e) (unlined q) = obad q
+    line_same m g (stuck h e) (unlined q) = obad q
 
-    line_defines : (m : Tagged) (x : ℕ) → Fit m → (o : Out Slices) → Line m.slices o → OHolds (Defines X Fit x m) (tagged (m.tags ++ (x ∷ [])) o)
+    line_defines : (m : Tagged) (x : ℕ) → Fit m → (o : Out Slices (Unit {0})) → Line m.slices o → OHolds (Defines X Fit x m) (tagged (m.tags ++ (x ∷ [])) o)
     unfolding tagged tagged_machine slices_store work_store work_machine
     line_defines m x g (wrote m') (lined a c d i) = ogood {s = record { slices = m'; tags = m.tags ++ (x ∷ []) }} (record {
       good = record { long = omega (arith, a, g.long); inside = i };
@@ -237,7 +235,7 @@ module _ (n : ℕ) where
       egets = λ k. ap mark_of (ap (λ (f : ℕ → ℕ). f k) d);
       tagged = refl;
     })
-    line_defines m x g (stuck e) (unlined q) = obad q
+    line_defines m x g (stuck h e) (unlined q) = obad q
 
     pub machine_lawful : MLawful X Fit n
     unfolding tagged_machine slices_store work_store work_machine from
@@ -266,20 +264,21 @@ module _ (n : ℕ) where
       alias_same = λ m x g l. line_same m g (line_in (forward_once (work_asks b.types B) (work_naming b) B x (B.type_by_id x)) m.slices) (forward_line b B m.slices g.inside x);
       leaf_same = λ m x g l. line_same m g (line_in (definition_once (work_asks b.types B) (work_naming b) B x (B.type_by_id x)) m.slices) (definition_line b B m.slices g.inside x);
       body_defines = λ m x g l. line_defines m x g (line_in (definition_once (work_asks b.types B) (work_naming b) B x (B.type_by_id x)) m.slices) (definition_line b B m.slices g.inside x);
+      leaving_tags = λ h m. refl;
     }
 
 -- ---- what it does to the sheet is what the code's machine does
-slices_out : (ts : List ℕ) (o : Out Slices) → o ≡ omap (λ (m : Tagged). m.slices) (tagged ts o)
+slices_out : (ts : List ℕ) (o : Out Slices (Unit {0})) → o ≡ omap (λ (m : Tagged). m.slices) (λ h. h) (tagged ts o)
 unfolding tagged
 slices_out ts (wrote m) = refl
-slices_out ts (stuck c) = refl
+slices_out ts (stuck h c) = refl
 
 store_map : (b : TypeTable) (B : Rules) → StoreMap (tagged_machine b B).store (work_machine b B).store (λ m. m.slices)
 unfolding tagged_machine work_machine
 store_map b B = record { gets = λ m x. refl; marks = λ k x m. refl; pushes = λ x m. refl; lists = λ m. refl }
 
-pub tagged_map : (b : TypeTable) (B : Rules) → MachineMap (tagged_machine b B) (work_machine b B) (λ m. m.slices)
-unfolding tagged_machine
+pub tagged_map : (b : TypeTable) (B : Rules) → MachineMap (tagged_machine b B) (work_machine b B) (λ m. m.slices) (λ h. h)
+unfolding tagged_machine work_machine
 tagged_map b B = record {
   stores = store_map b B;
   starts = λ room m. refl;
@@ -291,8 +290,9 @@ tagged_map b B = record {
   alias_lines = λ m x. slices_out m.tags ((work_machine b B).alias_line m.slices x);
   leaf_lines = λ m x. slices_out m.tags ((work_machine b B).leaf_line m.slices x);
   bodies = λ m x. slices_out (m.tags ++ (x ∷ [])) ((work_machine b B).body m.slices x);
+  helds = λ m. refl;
 }
 
 -- so a request of the one, seen without the tags, is a request of the other
-pub tagged_dumped : (b : TypeTable) (B : Rules) (T : Table) (m : Tagged) (x : ℕ) → dumped (work_machine b B) T m.slices x ≡ omap (λ (m' : Tagged). m'.slices) (dumped (tagged_machine b B) T m x)
-tagged_dumped b B T m x = map_dumped (tagged_machine b B) (work_machine b B) (λ m'. m'.slices) (tagged_map b B) T m x
+pub tagged_dumped : (b : TypeTable) (B : Rules) (T : Table) (m : Tagged) (x : ℕ) → dumped (work_machine b B) T m.slices x ≡ omap (λ (m' : Tagged). m'.slices) (λ h. h) (dumped (tagged_machine b B) T m x)
+tagged_dumped b B T m x = map_dumped (tagged_machine b B) (work_machine b B) (λ m'. m'.slices) (λ h. h) (tagged_map b B) T m x

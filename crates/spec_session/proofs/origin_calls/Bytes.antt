@@ -28,29 +28,29 @@ use Rattle.spec_c_dumper.proofs.origins.Emission.{lined_wrote, lined_bind, each_
 use Rattle.spec_c_dumper.proofs.origins.Requests.{filled_listed}
 
 -- whatever the numbers are
-no_number : {M : Type 0} {Z : Type 0} {k : ℕ} {F : (ℕ → Bool) → Out (Traced M)} {P : Out M} → Lined Z k F P → Lined ⊥ k F P
-no_number h = record { same = h.same; need = h.need; from = h.from; fits = h.fits; short = h.short; counts = h.counts; numbered = λ z q. z }
+no_number : {M H : Type 0} {Z : Type 0} {k : ℕ} {F : (ℕ → Bool) → Out (Traced M) H} {P : Out M H} → Lined Z k F P → Lined ⊥ k F P
+no_number h = record { same = h.same; need = h.need; from = h.from; fits = h.fits; short = h.short; counts = h.counts; numbered = λ z m q. z }
 
-lined_refused : {M : Type 0} (k e : ℕ) → Lined {M = M} ⊥ k (λ r. stuck e) (stuck e)
+lined_refused : {M H : Type 0} (h : H) (k e : ℕ) → Lined {M = M} ⊥ k (λ r. stuck h e) (stuck h e)
 unfolding forget
-lined_refused k e = record { same = refl; need = k; from = omega arith; fits = λ c l. refl; short = λ c l q. absurd (omega arith); counts = λ s' q. absurd (let z : ◌≡◌ {A = ℕ} 0 1 = cc in omega arith); numbered = λ z q. z }
+lined_refused h k e = record { same = refl; need = k; from = omega arith; fits = λ c l. refl; short = λ c l q. absurd (omega arith); counts = λ s' q. absurd (let z : ◌≡◌ {A = ℕ} 0 1 = cc in omega arith); numbered = λ z m q. z }
 
 -- ---- one request
-module _ {M : Type 0} (X : Machine M) (T : Table) (shows : ℕ → Bool) where
-  listed_lined : (x : ℕ) (es : List Entry) (o : Res (WithLeaders M)) → Lined ⊥ (length es) (λ r. listed_traced X T r shows x es o) (listed_out X T (without_leaders o))
+module _ {M H : Type 0} (X : Machine M H) (T : Table) (shows : ℕ → Bool) where
+  listed_lined : (h : H) (x : ℕ) (es : List Entry) (o : Res (WithLeaders M)) → Lined ⊥ (length es) (λ r. listed_traced X T r shows h x es o) (listed_out X T h (without_leaders o))
   unfolding listed_traced listed_out without_leaders
-  listed_lined x es (ok s b) =
+  listed_lined h x es (ok s b) =
       let m : Traced M = record { mach = s.state; entries = es } in
       lined_bind ⊥ (length es) (λ r. each_listed X T r shows (listed_entry x s.leaders) (X.store.list s.state) m) (eeach (λ m' y. emit X T 512 m' y 0) (X.store.list s.state) s.state)
       (no_number (each_lined (Numbered X) (λ r m' y. emit_traced X r shows (listed_entry x s.leaders) T 512 m' y 0) (λ m' y. emit X T 512 m' y 0) (λ m' y. emit_lined X shows (listed_entry x s.leaders) T 512 m' y 0) (X.store.list s.state) m))
       (λ r m'. wrote (record { mach = X.start 0 m'.mach; entries = m'.entries })) (λ m'. wrote (X.start 0 m')) (λ m'. lined_wrote ⊥ (record { mach = X.start 0 m'.mach; entries = m'.entries }))
-  listed_lined x es (refused c) = lined_refused (length es) c
+  listed_lined h x es (refused c) = lined_refused h (length es) c
 
   pub dumped_lined : (m : M) (es : List Entry) (x : ℕ) → Lined ⊥ (length es) (λ r. dumped_traced X T r shows m es x) (dumped X T m x)
   unfolding dumped_traced dumped
   dumped_lined m es x =
-      subst (λ (o : Res M). Lined ⊥ (length es) (λ r. listed_traced X T r shows x es (order_with_leaders X.store x 512 T [] (record { state = m; leaders = [] }) x false)) (listed_out X T o))
-      (order_forgets X.store x 512 T [] (record { state = m; leaders = [] }) x false) (listed_lined x es (order_with_leaders X.store x 512 T [] (record { state = m; leaders = [] }) x false))
+      subst (λ (o : Res M). Lined ⊥ (length es) (λ r. listed_traced X T r shows (X.held m) x es (order_with_leaders X.store x 512 T [] (record { state = m; leaders = [] }) x false)) (listed_out X T (X.held m) o))
+      (order_forgets X.store x 512 T [] (record { state = m; leaders = [] }) x false) (listed_lined (X.held m) x es (order_with_leaders X.store x 512 T [] (record { state = m; leaders = [] }) x false))
 
 -- ---- where requests have come to
 abbrev Short : Reach → Type 0
@@ -70,21 +70,21 @@ is_reached (reached len w t) = 1
 is_reached (refused_by c len v t) = 0
 
 module _ (len v : ℕ) (t : List ℕ) (es : List Entry) where
-  after_held : (n : ℕ) → length es ≤ n → (o : Out (Traced Slices)) → ((m : Traced Slices) → o ≡ wrote m → length m.entries ≡ n) → length (entries_after es o) ≤ n
+  after_held : (n : ℕ) → length es ≤ n → (o : Out (Traced Slices) (Unit {0})) → ((m : Traced Slices) → o ≡ wrote m → length m.entries ≡ n) → length (entries_after es o) ≤ n
   unfolding entries_after
   after_held n l (wrote m) h = let q : length m.entries ≡ n = h m refl in omega arith
-  after_held n l (stuck c) h = l
+  after_held n l (stuck m c) h = l
 
-  after_counts : (n : ℕ) (o : Out (Traced Slices)) → ((m : Traced Slices) → o ≡ wrote m → length m.entries ≡ n) → is_reached (came_to len v t (forget o)) ≡ 1 → length (entries_after es o) ≡ n
+  after_counts : (n : ℕ) (o : Out (Traced Slices) (Unit {0})) → ((m : Traced Slices) → o ≡ wrote m → length m.entries ≡ n) → is_reached (came_to len v t (forget o)) ≡ 1 → length (entries_after es o) ≡ n
   unfolding entries_after came_to forget
   after_counts n (wrote m) h q = h m refl
-  after_counts n (stuck c) h q = absurd (let z : ◌≡◌ {A = ℕ} 0 1 = q in omega arith)
+  after_counts n (stuck m c) h q = absurd (let z : ◌≡◌ {A = ℕ} 0 1 = q in omega arith)
 
-  stuck_short : Short (came_to len v t (forget (stuck 17)))
+  stuck_short : (h : Unit {0}) → Short (came_to len v t (forget (stuck h 17)))
   unfolding came_to forget
-  stuck_short = (len, v, _, refl)
+  stuck_short h = (len, v, _, refl)
 
-  came_fits : (F : (ℕ → Bool) → Out (Traced Slices)) (P : Out Slices) → Lined ⊥ (length es) F P → ReachFits (length es) (λ r. came_to_traced len v t es (F r)) (came_to len v t P)
+  came_fits : (F : (ℕ → Bool) → Out (Traced Slices) (Unit {0})) (P : Out Slices (Unit {0})) → Lined ⊥ (length es) F P → ReachFits (length es) (λ r. came_to_traced len v t es (F r)) (came_to len v t P)
   unfolding came_to_traced
   came_fits F P h = record {
     same = ap (came_to len v t) h.same;
@@ -92,7 +92,7 @@ module _ (len v : ℕ) (t : List ℕ) (es : List Entry) where
     from = h.from;
     held = after_held h.need h.from (F always) h.counts;
     fits = λ c l. ap (came_to_traced len v t es) (h.fits c l);
-    short = λ c l q. subst (λ (o : Out (Traced Slices)). Short (came_to len v t (forget o))) (sym (h.short c l q)) stuck_short;
+    short = λ c l q. subst (λ (o : Out (Traced Slices) (Unit {0})). Short (came_to len v t (forget o))) (sym (h.short c l q).1) (stuck_short (h.short c l q).0);
     counts = λ n w u e. after_counts h.need (F always) h.counts (ap is_reached e);
   }
 

@@ -23,7 +23,7 @@ use Rattle.spec_c_dumper.specs.origins.Causes.{Entry, entry, WithLeaders, leader
 use Rattle.spec_c_dumper.specs.origins.Claims.{forget}
 use Rattle.spec_session.specs.origin_calls.Bytes.{listed_traced, dumped_traced, Reached as Came, entries_after, came_to_traced, requested_traced}
 
-module _ {M : Type 0} (X : Machine M) (T : Table) (shows : ℕ → Bool) (room : ℕ) (es : List Entry) where
+module _ {M H : Type 0} (X : Machine M H) (T : Table) (shows : ℕ → Bool) (room : ℕ) (es : List Entry) where
   abbrev after : Traced M → Traced M
   after s = record { mach = s.mach; entries = es ++ s.entries }
 
@@ -33,27 +33,27 @@ module _ {M : Type 0} (X : Machine M) (T : Table) (shows : ℕ → Bool) (room :
   more_same : (j : ℕ) → ltb (length es + j) room ≡ ltb j left
   more_same j = ⊎_elim (λ h. lt-ltb (length es + j) room h ∙ sym (lt-ltb j left (omega arith))) (λ h. le-ltb (length es + j) room h ∙ sym (le-ltb j left (omega arith))) (cases_lt (length es + j) room)
 
-  said_shift : (fs : List Entry) (o : Out M) → with_entries (es ++ fs) o ≡ omap after (with_entries fs o)
+  said_shift : (fs : List Entry) (o : Out M H) → with_entries (es ++ fs) o ≡ omap after (λ h. h) (with_entries fs o)
   unfolding with_entries
   said_shift fs (wrote m) = refl
-  said_shift fs (stuck c) = refl
+  said_shift fs (stuck h c) = refl
 
-  line_shift : (shown : Bool) (e : Entry) (step : M → Out M) (s : Traced M) → line (up_to room) shown e step (after s) ≡ omap after (line (up_to left) shown e step s)
+  line_shift : (shown : Bool) (e : Entry) (step : M → Out M H) (s : Traced M) → line X.held (up_to room) shown e step (after s) ≡ omap after (λ h. h) (line X.held (up_to left) shown e step s)
   unfolding line
   line_shift false e step s = said_shift s.entries (step s.mach)
   line_shift true e step s =
-      ap (λ (n : ℕ). elim (ltb n room) as (λ z. Out (Traced M)) [ true ↦ with_entries ((es ++ s.entries) ++ (e ∷ [])) (step s.mach) | false ↦ stuck 17 ]) (length-append es s.entries)
-      ∙ ap (λ (c : Bool). elim c as (λ z. Out (Traced M)) [ true ↦ with_entries ((es ++ s.entries) ++ (e ∷ [])) (step s.mach) | false ↦ stuck 17 ]) (more_same (length s.entries))
-      ∙ ap (λ (l : List Entry). elim (ltb (length s.entries) left) as (λ z. Out (Traced M)) [ true ↦ with_entries l (step s.mach) | false ↦ stuck 17 ]) (append_assoc es s.entries (e ∷ []))
+      ap (λ (n : ℕ). elim (ltb n room) as (λ z. Out (Traced M) H) [ true ↦ with_entries ((es ++ s.entries) ++ (e ∷ [])) (step s.mach) | false ↦ stuck (X.held s.mach) 17 ]) (length-append es s.entries)
+      ∙ ap (λ (c : Bool). elim c as (λ z. Out (Traced M) H) [ true ↦ with_entries ((es ++ s.entries) ++ (e ∷ [])) (step s.mach) | false ↦ stuck (X.held s.mach) 17 ]) (more_same (length s.entries))
+      ∙ ap (λ (l : List Entry). elim (ltb (length s.entries) left) as (λ z. Out (Traced M) H) [ true ↦ with_entries l (step s.mach) | false ↦ stuck (X.held s.mach) 17 ]) (append_assoc es s.entries (e ∷ []))
       ∙ both (ltb (length s.entries) left)
     where
-      both : (c : Bool) → (elim c as (λ z. Out (Traced M)) [ true ↦ with_entries (es ++ (s.entries ++ (e ∷ []))) (step s.mach) | false ↦ stuck 17 ])
-          ≡ omap after (elim c as (λ z. Out (Traced M)) [ true ↦ with_entries (s.entries ++ (e ∷ [])) (step s.mach) | false ↦ stuck 17 ])
+      both : (c : Bool) → (elim c as (λ z. Out (Traced M) H) [ true ↦ with_entries (es ++ (s.entries ++ (e ∷ []))) (step s.mach) | false ↦ stuck (X.held s.mach) 17 ])
+          ≡ omap after (λ h. h) (elim c as (λ z. Out (Traced M) H) [ true ↦ with_entries (s.entries ++ (e ∷ [])) (step s.mach) | false ↦ stuck (X.held s.mach) 17 ])
       both true = said_shift (s.entries ++ (e ∷ [])) (step s.mach)
       both false = refl
 
   module _ (why : ℕ → Entry) where
-    shift_map : (cont : ℕ) → MachineMap (noting X (up_to left) shows why cont) (noting X (up_to room) shows why cont) after
+    shift_map : (cont : ℕ) → MachineMap (noting X (up_to left) shows why cont) (noting X (up_to room) shows why cont) after (λ h. h)
     shift_map cont = record {
       stores = record { gets = λ s x. refl; marks = λ d x s. refl; pushes = λ x s. refl; lists = λ s. refl };
       starts = λ r s. refl;
@@ -65,41 +65,42 @@ module _ {M : Type 0} (X : Machine M) (T : Table) (shows : ℕ → Bool) (room :
       alias_lines = λ s x. line_shift (shows x) (cause_at 3 (why x) x cont) (λ m. X.alias_line m x) s;
       leaf_lines = λ s x. line_shift true (cause_at 2 (why x) x cont) (λ m. X.leaf_line m x) s;
       bodies = λ s x. line_shift true (why x) (λ m. X.body m x) s;
+      helds = λ s. refl;
     }
 
-    emit_shift : (n : ℕ) (s : Traced M) (x cont : ℕ) → emit_traced X (up_to room) shows why T n (after s) x cont ≡ omap after (emit_traced X (up_to left) shows why T n s x cont)
+    emit_shift : (n : ℕ) (s : Traced M) (x cont : ℕ) → emit_traced X (up_to room) shows why T n (after s) x cont ≡ omap after (λ h. h) (emit_traced X (up_to left) shows why T n s x cont)
     unfolding emit_traced
     emit_shift zero s x cont = refl
     emit_shift (suc n) s x cont =
-        map_look (noting X (up_to left) shows why cont) (noting X (up_to room) shows why cont) after (shift_map cont) T (λ s' y c. emit_traced X (up_to room) shows why T n s' y c) (λ s' y c. emit_traced X (up_to left) shows why T n s' y c)
+        map_look (noting X (up_to left) shows why cont) (noting X (up_to room) shows why cont) after (λ h. h) (shift_map cont) T (λ s' y c. emit_traced X (up_to room) shows why T n s' y c) (λ s' y c. emit_traced X (up_to left) shows why T n s' y c)
         (λ s' y c. emit_shift n s' y c) s x cont (X.eget s.mach x)
 
-  abbrev last : Traced M → Out (Traced M)
+  abbrev last : Traced M → Out (Traced M) H
   last k = wrote (record { mach = X.start 0 k.mach; entries = k.entries })
 
-  listed_shift : (x : ℕ) (o : Res (WithLeaders M)) → listed_traced X T (up_to room) shows x es o ≡ omap after (listed_traced X T (up_to left) shows x [] o)
+  listed_shift : (h : H) (x : ℕ) (o : Res (WithLeaders M)) → listed_traced X T (up_to room) shows h x es o ≡ omap after (λ m. m) (listed_traced X T (up_to left) shows h x [] o)
   unfolding listed_traced
-  listed_shift x (ok s b) =
+  listed_shift h x (ok s b) =
       let why : ℕ → Entry = listed_entry x s.leaders in
       let begun : Traced M = record { mach = s.state; entries = [] } in
       ap (λ (l : List Entry). obind (each_listed X T (up_to room) shows why (X.store.list s.state) (record { mach = s.state; entries = l })) last) (sym (append-nil es))
-      ∙ ap (λ (o : Out (Traced M)). obind o last)
-      (map_eeach (noting X (up_to left) shows why 0) (noting X (up_to room) shows why 0) after (shift_map why 0) T (λ m y. emit_traced X (up_to room) shows why T 512 m y 0) (λ m y. emit_traced X (up_to left) shows why T 512 m y 0) (λ m y. emit_shift why 512 m y 0) (X.store.list s.state) begun)
-      ∙ map_obind (noting X (up_to left) shows why 0) (noting X (up_to room) shows why 0) after (shift_map why 0) T (each_listed X T (up_to left) shows why (X.store.list s.state) begun) last last (λ k. refl)
-  listed_shift x (refused c) = refl
+      ∙ ap (λ (o : Out (Traced M) H). obind o last)
+      (map_eeach (noting X (up_to left) shows why 0) (noting X (up_to room) shows why 0) after (λ h. h) (shift_map why 0) T (λ m y. emit_traced X (up_to room) shows why T 512 m y 0) (λ m y. emit_traced X (up_to left) shows why T 512 m y 0) (λ m y. emit_shift why 512 m y 0) (X.store.list s.state) begun)
+      ∙ map_obind (noting X (up_to left) shows why 0) (noting X (up_to room) shows why 0) after (λ h. h) (shift_map why 0) T (each_listed X T (up_to left) shows why (X.store.list s.state) begun) last last (λ k. refl)
+  listed_shift h x (refused c) = refl
 
-  dumped_shift : (m : M) (x : ℕ) → dumped_traced X T (up_to room) shows m es x ≡ omap after (dumped_traced X T (up_to left) shows m [] x)
+  dumped_shift : (m : M) (x : ℕ) → dumped_traced X T (up_to room) shows m es x ≡ omap after (λ h. h) (dumped_traced X T (up_to left) shows m [] x)
   unfolding dumped_traced
-  dumped_shift m x = listed_shift x (order_with_leaders X.store x 512 T [] (record { state = m; leaders = [] }) x false)
+  dumped_shift m x = listed_shift (X.held m) x (order_with_leaders X.store x 512 T [] (record { state = m; leaders = [] }) x false)
 
 -- where a request has come to, with entries before it
 abbrev pub behind : List Entry → Came → Came
 behind es r = record { reach = r.reach; entries = es ++ r.entries }
 
-came_shift : (X : Machine Slices) (T : Table) (shows : ℕ → Bool) (room len v : ℕ) (t : List ℕ) (es : List Entry) (o : Out (Traced Slices)) → came_to_traced len v t es (omap (after X T shows room es) o) ≡ behind es (came_to_traced len v t [] o)
+came_shift : (X : Machine Slices (Unit {0})) (T : Table) (shows : ℕ → Bool) (room len v : ℕ) (t : List ℕ) (es : List Entry) (o : Out (Traced Slices) (Unit {0})) → came_to_traced len v t es (omap (after X T shows room es) (λ h. h) o) ≡ behind es (came_to_traced len v t [] o)
 unfolding came_to_traced forget entries_after
 came_shift X T shows room len v t es (wrote m) = refl
-came_shift X T shows room len v t es (stuck c) = ap (λ (l : List Entry). record { reach = came_to len v t (stuck c); entries = l }) (sym (append-nil es))
+came_shift X T shows room len v t es (stuck h c) = ap (λ (l : List Entry). record { reach = came_to len v t (stuck h c); entries = l }) (sym (append-nil es))
 
 pub requested_shift : (room : ℕ) (b : TypeTable) (s : List ℕ) (id : ℕ) (es : List Entry) (len v : ℕ) (w t : List ℕ) → requested_traced (up_to room) b s id es len v w t ≡ behind es (requested_traced (up_to (room - length es)) b s id [] len v w t)
 unfolding requested_traced
@@ -118,15 +119,15 @@ module _ (b : TypeTable) (s w u : List ℕ) (id : ℕ) (more : ℕ → Bool) (es
   abbrev began : WithLeaders Slices
   began = record { state = start; leaders = [] }
 
-  quiet : (f : Bool) → listed_traced (work_machine b B) (table_of B) more (shows_in B) id es (ok began f) ≡ wrote (record { mach = start; entries = es })
+  quiet : (f : Bool) → listed_traced (work_machine b B) (table_of B) more (shows_in B) tt id es (ok began f) ≡ wrote (record { mach = start; entries = es })
   unfolding listed_traced work_machine slices_store work_store from eeach obind emptied
   quiet f = refl
 
-  idle_visit : (rec : WithLeaders Slices → ℕ → Bool → Res (WithLeaders Slices)) (d : Mark) → is_idle d ((table_of B).node id) ≡ true → listed_traced (work_machine b B) (table_of B) more (shows_in B) id es (visit (leader_store slices_store id []) (table_of B) rec began id false d) ≡ wrote (record { mach = start; entries = es })
+  idle_visit : (rec : WithLeaders Slices → ℕ → Bool → Res (WithLeaders Slices)) (d : Mark) → is_idle d ((table_of B).node id) ≡ true → listed_traced (work_machine b B) (table_of B) more (shows_in B) tt id es (visit (leader_store slices_store id []) (table_of B) rec began id false d) ≡ wrote (record { mach = start; entries = es })
   unfolding visit is_idle fresh is_ignored
   idle_visit rec new e = go ((table_of B).node id) e
     where
-      go : (nd : Node) → is_ignored nd ≡ true → listed_traced (work_machine b B) (table_of B) more (shows_in B) id es (fresh (leader_store slices_store id []) (table_of B) rec began id false nd) ≡ wrote (record { mach = start; entries = es })
+      go : (nd : Node) → is_ignored nd ≡ true → listed_traced (work_machine b B) (table_of B) more (shows_in B) tt id es (fresh (leader_store slices_store id []) (table_of B) rec began id false nd) ≡ wrote (record { mach = start; entries = es })
       go ignored q = quiet false
       go plain q = absurd (true≢false (sym q))
       go (listed f) q = absurd (true≢false (sym q))

@@ -53,9 +53,9 @@ arrived_at len v (Ok at) = record { len = len + at; stop = None; visits = v }
 arrived_at len v (Err c) = record { len = len; stop = Some c; visits = v }
 
 -- what a dump in the slice after the first len bytes of t leaves there, where v visits were counted before it
-unfoldable pub came_to : ℕ → ℕ → List ℕ → Out Slices → Reach
+unfoldable pub came_to : ℕ → ℕ → List ℕ → Out Slices (Unit {0}) → Reach
 came_to len v t (wrote m) = reached (len + m.at) m.work (place t len m.text)
-came_to len v t (stuck c) = refused_by c len v (take len t)
+came_to len v t (stuck held c) = refused_by c len v (take len t)
 
 -- the slice that a request is lent: what follows the text so far, up to the limit
 abbrev pub lent_to : ℕ → List ℕ → List ℕ

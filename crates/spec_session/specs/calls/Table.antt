@@ -58,7 +58,8 @@ pub record RulesByTable : Type 1 where
   -- line together; or of the entries of a chain
   pub deep_order : (St : Type 0) (K : Store St) (T : Table) (s : St) (x : ℕ) (weak : Bool)
       → order K zero T s x weak ≡ refused (number too_deep)
-  pub deep_emit : (M : Type 0) (X : Machine M) (T : Table) (s : M) (x cont : ℕ) → emit X T zero s x cont ≡ stuck (number too_deep)
+  pub deep_emit : (M H : Type 0) (X : Machine M H) (T : Table) (s : M) (x cont : ℕ)
+      → emit X T zero s x cont ≡ stuck (X.held s) (number too_deep)
   pub deep_size : (B : Btf) (id : ℕ) → get_size_of zero B id ≡ no (number too_deep)
   pub deep_align : (B : Btf) (id : ℕ) → get_align_of zero B id ≡ no (number too_deep)
   pub deep_decl : (U : Type 0) (N : Naming U) (B : Btf) (id : ℕ) (fname : Name) (lvl : ℕ)
@@ -70,10 +71,11 @@ pub record RulesByTable : Type 1 where
   pub long_chain : (B : Btf) (id : ℕ) (c : List Entry) → chain_of zero B id c ≡ no (number too_deep)
   -- 13: what is in progress is met again
   pub cycle_order : (St : Type 0) (s : St) → meet false s ≡ refused (number cycle)
-  pub cycle_emit : (M : Type 0) (X : Machine M) (T : Table) (x : ℕ) (s : M) → mention X T false false x s ≡ stuck (number cycle)
+  pub cycle_emit : (M H : Type 0) (X : Machine M H) (T : Table) (x : ℕ) (s : M)
+      → mention X T false false x s ≡ stuck (X.held s) (number cycle)
   -- 14: a type without a name at the top
-  pub no_name : (M : Type 0) (X : Machine M) (T : Table) (rec : M → ℕ → ℕ → Out M) (s : M) (x cont : ℕ)
-      → allowed X T rec s x cont true ≡ stuck (number nameless)
+  pub no_name : (M H : Type 0) (X : Machine M H) (T : Table) (rec : M → ℕ → ℕ → Out M H) (s : M) (x cont : ℕ)
+      → allowed X T rec s x cont true ≡ stuck (X.held s) (number nameless)
   -- 15: the packed test, of a member
   pub align_zero_lem : (bit_offset : ℕ) (rest : Ask Bool) → off_align zero bit_offset rest ≡ no (number align_zero)
   -- 16: a number over 32 bits

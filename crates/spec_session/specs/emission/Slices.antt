@@ -44,23 +44,23 @@ emptied zero w = w
 emptied (suc k) w = put_field (emptied k w) k 11 0
 
 -- what was written, as a sheet whose order list has n places; or the refusal
-unfoldable pub slices_of : ℕ → Wrote (List ℕ) → Out Slices
+unfoldable pub slices_of : ℕ → Wrote (List ℕ) (Unit {0}) → Out Slices (Unit {0})
 slices_of n (written t at w) = wrote (record { work = w; text = t; at = at; len = n })
-slices_of n (cut_off c) = stuck c
+slices_of n (cut_off h c) = stuck h c
 
 -- what the code's place says, with the text and the work at that moment
-abbrev pub emit_out : ℕ → Placed → List ℕ → List ℕ → Out Slices
+abbrev pub emit_out : ℕ → Placed → List ℕ → List ℕ → Out Slices (Unit {0})
 emit_out n at t w = slices_of n (out_of at t w)
 
 -- a writer's text, put at the sheet's place
-unfoldable pub line_in : Writer (List ℕ) → Slices → Out Slices
-line_in v m = slices_of m.len (put_said m.text (Ok m.at) (v m.work))
+unfoldable pub line_in : Writer (List ℕ) → Slices → Out Slices (Unit {0})
+line_in v m = slices_of m.len (put_said m.text (Ok m.at) v m.work)
 
 module _ (b : TypeTable) (B : Rules) where
   -- Lines by the remembering way: alignments are remembered in the work. Emission's marks stand in words 13, the flags of forward lines in
   -- words 3. The text is the lent slice, so `start` has no room to set. No list of tags is kept: whoever reasons about what is defined
   -- carries it beside the sheet.
-  unfoldable pub work_machine : Machine Slices
+  unfoldable pub work_machine : Machine Slices (Unit {0})
   work_machine = record {
     store = slices_store;
     start = λ room m. record { work = emptied m.len m.work; text = m.text; at = m.at; len = 0 };
@@ -73,10 +73,12 @@ module _ (b : TypeTable) (B : Rules) where
     leaf_line = λ m x. line_in (definition_once (work_asks b.types B) (work_naming b) B x (B.type_by_id x)) m;
     body = λ m x. line_in (definition_once (work_asks b.types B) (work_naming b) B x (B.type_by_id x)) m;
     tags = λ m. [];
+    held = λ m. tt;
+    leaving = λ held m. m;
   }
 
   -- the rule `emit` over it
-  unfoldable pub emit_in : ℕ → ℕ → Slices → ℕ → Out Slices
+  unfoldable pub emit_in : ℕ → ℕ → Slices → ℕ → Out Slices (Unit {0})
   emit_in left cont m x = emit work_machine (table_of B) left m x cont
 
 -- A request for an id that is ordered, or is a function, a variable, a section or a tag, has nothing to do.

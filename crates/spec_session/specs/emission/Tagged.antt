@@ -10,11 +10,11 @@ pub record Tagged : Type 0 where
   pub slices : Slices
   pub tags : List ℕ
 
-unfoldable pub tagged : List ℕ → Out Slices → Out Tagged
+unfoldable pub tagged : List ℕ → Out Slices (Unit {0}) → Out Tagged (Unit {0})
 tagged ts (wrote m) = wrote (record { slices = m; tags = ts })
-tagged ts (stuck c) = stuck c
+tagged ts (stuck held c) = stuck held c
 
-unfoldable pub tagged_machine : TypeTable → Rules → Machine Tagged
+unfoldable pub tagged_machine : TypeTable → Rules → Machine Tagged (Unit {0})
 tagged_machine b B = record {
   store = record {
     get = λ m x. slices_store.get m.slices x;
@@ -32,4 +32,6 @@ tagged_machine b B = record {
   leaf_line = λ m x. tagged m.tags ((work_machine b B).leaf_line m.slices x);
   body = λ m x. tagged (m.tags ++ (x ∷ [])) ((work_machine b B).body m.slices x);
   tags = λ m. m.tags;
+  held = λ m. (work_machine b B).held m.slices;
+  leaving = λ held m. record { slices = (work_machine b B).leaving held m.slices; tags = m.tags };
 }

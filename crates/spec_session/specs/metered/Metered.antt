@@ -20,8 +20,9 @@ unfoldable pub beside_of : Slices → Told Marks → Res Slices
 beside_of m (told k strong made) = ok (with_marks m k) strong
 beside_of m (halted c made) = refused c
 
-unfoldable pub dumped_metered : TypeTable → Rules → Limit → Slices → ℕ → ℕ → Out Slices
-dumped_metered b B c m x made = listed_out (work_machine b B) (table_of B) (beside_of m (ordered_in B c (marks_in m) x made))
+unfoldable pub dumped_metered : TypeTable → Rules → Limit → Slices → ℕ → ℕ → Out Slices (Unit {0})
+dumped_metered b B c m x made =
+    listed_out (work_machine b B) (table_of B) ((work_machine b B).held m) (beside_of m (ordered_in B c (marks_in m) x made))
 
 -- ---- a request under a ceiling, by the calls that the rules open
 

@@ -17,16 +17,17 @@ use Rattle.spec_c_dumper.specs.origins.Causes.{filled, entries_in}
 use Rattle.spec_c_dumper.specs.origins.Claims.{forget, Listed}
 
 -- One request, as `dumped` of `c_dumper_emit::emit_type`: what ordering listed, each at the top, and then the order list is empty again.
--- es: the entries before it.
-module _ {M : Type 0} (X : Machine M) (T : Table) (more : ℕ → Bool) (shows : ℕ → Bool) where
-  unfoldable pub listed_traced : ℕ → List Entry → Res (WithLeaders M) → Out (Traced M)
-  listed_traced x es (ok s strong) =
+-- held: of the names, before it; es: the entries.
+module _ {M H : Type 0} (X : Machine M H) (T : Table) (more : ℕ → Bool) (shows : ℕ → Bool) where
+  unfoldable pub listed_traced : H → ℕ → List Entry → Res (WithLeaders M) → Out (Traced M) H
+  listed_traced held x es (ok s strong) =
       obind (each_listed X T more shows (listed_entry x s.leaders) (X.store.list s.state) (record { mach = s.state; entries = es }))
       (λ m. wrote (record { mach = X.start 0 m.mach; entries = m.entries }))
-  listed_traced x es (refused c) = stuck c
+  listed_traced held x es (refused c) = stuck held c
 
-  unfoldable pub dumped_traced : M → List Entry → ℕ → Out (Traced M)
-  dumped_traced m es x = listed_traced x es (order_with_leaders X.store x 512 T [] (record { state = m; leaders = [] }) x false)
+  unfoldable pub dumped_traced : M → List Entry → ℕ → Out (Traced M) H
+  dumped_traced m es x =
+      listed_traced (X.held m) x es (order_with_leaders X.store x 512 T [] (record { state = m; leaders = [] }) x false)
 
 -- where the requests of a call have come to, and the entries of the accepted ones
 pub record Reached : Type 0 where
@@ -34,11 +35,11 @@ pub record Reached : Type 0 where
   pub entries : List Entry
 
 -- "a refused request's are dropped"
-unfoldable pub entries_after : List Entry → Out (Traced Slices) → List Entry
+unfoldable pub entries_after : List Entry → Out (Traced Slices) (Unit {0}) → List Entry
 entries_after es (wrote m) = m.entries
-entries_after es (stuck c) = es
+entries_after es (stuck held c) = es
 
-unfoldable pub came_to_traced : ℕ → ℕ → List ℕ → List Entry → Out (Traced Slices) → Reached
+unfoldable pub came_to_traced : ℕ → ℕ → List ℕ → List Entry → Out (Traced Slices) (Unit {0}) → Reached
 came_to_traced len v t es o = record { reach = came_to len v t (forget o); entries = entries_after es o }
 
 module _ (more : ℕ → Bool) (b : TypeTable) (s : List ℕ) where

@@ -23,13 +23,13 @@ pub emit_array-returns-in_err-a : goal.emit_array-returns-in_err-a
 emit_array-returns-in_err-a t c = entries.array_halts _ _ _ _ _ _ _ _ _ _ _ c.if-c-eq0.false _ _ _ c.in_err-a.ensures c.from_residual.ensures.1
 
 pub emit_array-returns-in_err-e-in_default : goal.emit_array-returns-in_err-e-in_default
-emit_array-returns-in_err-e-in_default t c = entries.array_other _ _ _ _ _ _ _ _ _ _ _ c.if-c-eq0.false _ _ _ _ _ _ _ _ _ _ c.kind_at.ensures c.in_default.not-Array c.in_ok-a.ensures c.in_err-e-in_default.ensures (said_past _ _ _ _) (put_ended _ _ _ _ c.from_residual-in_err-e-in_default.ensures.1)
+emit_array-returns-in_err-e-in_default t c = entries.array_other _ _ _ _ _ _ _ _ _ _ _ c.if-c-eq0.false _ _ _ _ _ _ _ _ _ _ c.kind_at.ensures c.in_default.not-Array c.in_ok-a.ensures c.in_err-e-in_default.ensures (said_past _ _ _ _ _) (put_ended _ _ _ _ c.from_residual-in_err-e-in_default.ensures.1)
 
 pub emit_array-returns-in_err-f-in_default : goal.emit_array-returns-in_err-f-in_default
 emit_array-returns-in_err-f-in_default t c = entries.array_other _ _ _ _ _ _ _ _ _ _ _ c.if-c-eq0.false _ _ _ _ _ _ _ _ _ _ c.kind_at.ensures c.in_default.not-Array c.in_ok-a.ensures c.in_ok-e-in_default.ensures c.in_err-f-in_default.ensures (put_ended _ _ _ _ c.from_residual-in_err-f-in_default.ensures.1)
 
 pub emit_base-returns-in-Int : goal.emit_base-returns-in-Int
-emit_base-returns-in-Int t c = entries.word_name_lem _ _ _ _ _ _ _ _ c.of.ensures _ _ _ _ _ _ c.in-Int.is (put_only _ _ _ _ _ _ c.put_str.ensures)
+emit_base-returns-in-Int t c = entries.word_name_lem _ _ _ _ _ _ _ _ c.of.ensures _ _ _ _ _ _ c.in-Int.is (put_only _ _ _ _ _ _ _ c.put_str.ensures)
 
 pub emit_base-returns-in-Struct : goal.emit_base-returns-in-Struct
 emit_base-returns-in-Struct t c = entries.word_composite _ _ _ _ _ _ _ _ c.of.ensures _ _ _ _ _ _ c.in-Struct.is c.emit_composite_word.ensures
@@ -62,10 +62,10 @@ pub emit_based-returns : goal.emit_based-returns
 emit_based-returns t c = entries.based_on _ _ _ _ _ _ _ _ _ c.if-left-eq0.false _ _ c.requires.0 _ _ c.skip_mods-m.ensures.0 _ _ c.in_ok-a.ensures _ _ _ c.in_ok-e.ensures _ _ _ c.emit_links.ensures
 
 pub emit_based-returns-in_err-a : goal.emit_based-returns-in_err-a
-emit_based-returns-in_err-a t c = entries.based_on _ _ _ _ _ _ _ _ _ c.if-left-eq0.false _ _ c.requires.0 _ _ c.skip_mods-m.ensures.0 _ _ c.in_err-a.ensures _ _ _ (said_past _ _ _ c.args.work.now) _ _ _ (said_ended _ _ _ _ _ c.from_residual.ensures.1)
+emit_based-returns-in_err-a t c = entries.based_on _ _ _ _ _ _ _ _ _ c.if-left-eq0.false _ _ c.requires.0 _ _ c.skip_mods-m.ensures.0 _ _ c.in_err-a.ensures _ _ _ (said_past _ _ _ _ c.args.work.now) _ _ _ (said_ended _ _ _ _ _ _ c.from_residual.ensures.1)
 
 pub emit_based-returns-in_err-e : goal.emit_based-returns-in_err-e
-emit_based-returns-in_err-e t c = entries.based_on _ _ _ _ _ _ _ _ _ c.if-left-eq0.false _ _ c.requires.0 _ _ c.skip_mods-m.ensures.0 _ _ c.in_ok-a.ensures _ _ _ c.in_err-e.ensures _ _ _ (said_ended _ _ _ _ _ c.from_residual-in_err-e.ensures.1)
+emit_based-returns-in_err-e t c = entries.based_on _ _ _ _ _ _ _ _ _ c.if-left-eq0.false _ _ c.requires.0 _ _ c.skip_mods-m.ensures.0 _ _ c.in_ok-a.ensures _ _ _ c.in_err-e.ensures _ _ _ (said_ended _ _ _ _ _ _ c.from_residual-in_err-e.ensures.1)
 
 pub emit_composite_word-returns-then-is_empty : goal.emit_composite_word-returns-then-is_empty
 emit_composite_word-returns-then-is_empty t c = entries.composite_inline _ c.args.b.now.section.now _ _ _ _ _ _ _ _ _ _ _ _ _ _ (sym c.is_empty.ensures ∙ c.if-is_empty.true) c.emit_composite_def.ensures
@@ -80,40 +80,40 @@ pub emit_entry-returns-in_ok-a-in-Ptr : goal.emit_entry-returns-in_ok-a-in-Ptr
 emit_entry-returns-in_ok-a-in-Ptr t c = entries.arm_star _ _ _ _ _ _ _ c.args.c _ _ c.requires.0 _ c.path_at.ensures _ c.type_by_id-t.ensures _ c.of-kind.ensures _ _ _ c.in-Ptr.is c.in_ok-a-in-Ptr.ensures c.goes_on.ensures
 
 pub emit_entry-returns-in_err-a-in-Ptr : goal.emit_entry-returns-in_err-a-in-Ptr
-emit_entry-returns-in_err-a-in-Ptr t c = halted _ _ _ _ _ _ _ _ _ (entries.says_star _ _ _ _ _ _ _ c.args.c _ _ c.requires.0 _ c.path_at.ensures _ c.type_by_id-t.ensures _ c.of-kind.ensures _ _ c.in-Ptr.is c.in_err-a-in-Ptr.ensures) c.from_residual.ensures.1
+emit_entry-returns-in_err-a-in-Ptr t c = halted _ _ _ _ _ _ _ (entries.says_star _ _ _ _ _ _ _ c.args.c _ _ c.requires.0 _ c.path_at.ensures _ c.type_by_id-t.ensures _ c.of-kind.ensures _ _ c.in-Ptr.is c.in_err-a-in-Ptr.ensures) c.from_residual.ensures.1
 
 pub emit_entry-returns-in_ok-e-in-Array : goal.emit_entry-returns-in_ok-e-in-Array
 emit_entry-returns-in_ok-e-in-Array t c = entries.arm_array _ _ _ _ _ _ _ c.args.c _ _ c.requires.0 _ c.path_at.ensures _ c.type_by_id-t.ensures _ c.of-kind.ensures _ _ _ _ _ _ _ _ c.in-Array.is c.array_nelems-nelems.ensures c.skip_mods-m.ensures.0 c.in_ok-a-in-Array.ensures c.in_ok-e-in-Array.ensures c.named.ensures
 
 pub emit_entry-returns-in_err-a-in-Array : goal.emit_entry-returns-in_err-a-in-Array
-emit_entry-returns-in_err-a-in-Array t c = halted _ _ _ _ _ _ _ _ _ (entries.says_array _ _ _ _ _ _ _ c.args.c _ _ c.requires.0 _ c.path_at.ensures _ c.type_by_id-t.ensures _ c.of-kind.ensures _ _ _ _ _ _ _ c.in-Array.is c.array_nelems-nelems.ensures c.skip_mods-m.ensures.0 c.in_err-a-in-Array.ensures (put_past _ _ (whole _))) c.from_residual-in_err-a-in-Array.ensures.1
+emit_entry-returns-in_err-a-in-Array t c = halted _ _ _ _ _ _ _ (entries.says_array _ _ _ _ _ _ _ c.args.c _ _ c.requires.0 _ c.path_at.ensures _ c.type_by_id-t.ensures _ c.of-kind.ensures _ _ _ _ _ _ _ c.in-Array.is c.array_nelems-nelems.ensures c.skip_mods-m.ensures.0 c.in_err-a-in-Array.ensures (put_past _ _ (whole _))) c.from_residual-in_err-a-in-Array.ensures.1
 
 pub emit_entry-returns-in_err-e-in-Array : goal.emit_entry-returns-in_err-e-in-Array
-emit_entry-returns-in_err-e-in-Array t c = halted _ _ _ _ _ _ _ _ _ (entries.says_array _ _ _ _ _ _ _ c.args.c _ _ c.requires.0 _ c.path_at.ensures _ c.type_by_id-t.ensures _ c.of-kind.ensures _ _ _ _ _ _ _ c.in-Array.is c.array_nelems-nelems.ensures c.skip_mods-m.ensures.0 c.in_ok-a-in-Array.ensures c.in_err-e-in-Array.ensures) c.from_residual-in_err-e-in-Array.ensures.1
+emit_entry-returns-in_err-e-in-Array t c = halted _ _ _ _ _ _ _ (entries.says_array _ _ _ _ _ _ _ c.args.c _ _ c.requires.0 _ c.path_at.ensures _ c.type_by_id-t.ensures _ c.of-kind.ensures _ _ _ _ _ _ _ c.in-Array.is c.array_nelems-nelems.ensures c.skip_mods-m.ensures.0 c.in_ok-a-in-Array.ensures c.in_err-e-in-Array.ensures) c.from_residual-in_err-e-in-Array.ensures.1
 
 pub emit_entry-returns-in_ok-a-in-FuncProto : goal.emit_entry-returns-in_ok-a-in-FuncProto
 emit_entry-returns-in_ok-a-in-FuncProto t c = entries.arm_proto _ _ _ _ _ _ _ c.args.c _ _ c.requires.0 _ c.path_at.ensures _ c.type_by_id-t.ensures _ c.of-kind.ensures _ _ _ _ c.in-FuncProto.is c.in_ok-a-in-FuncProto.ensures c.named-in-FuncProto.ensures
 
 pub emit_entry-returns-in_err-a-in-FuncProto : goal.emit_entry-returns-in_err-a-in-FuncProto
-emit_entry-returns-in_err-a-in-FuncProto t c = halted _ _ _ _ _ _ _ _ _ (entries.says_proto _ _ _ _ _ _ _ c.args.c _ _ c.requires.0 _ c.path_at.ensures _ c.type_by_id-t.ensures _ c.of-kind.ensures _ _ _ c.in-FuncProto.is c.in_err-a-in-FuncProto.ensures) c.from_residual-in_err-a-in-FuncProto.ensures.1
+emit_entry-returns-in_err-a-in-FuncProto t c = halted _ _ _ _ _ _ _ (entries.says_proto _ _ _ _ _ _ _ c.args.c _ _ c.requires.0 _ c.path_at.ensures _ c.type_by_id-t.ensures _ c.of-kind.ensures _ _ _ c.in-FuncProto.is c.in_err-a-in-FuncProto.ensures) c.from_residual-in_err-a-in-FuncProto.ensures.1
 
 pub emit_entry-returns-in_ok-e-in-Volatile : goal.emit_entry-returns-in_ok-e-in-Volatile
 emit_entry-returns-in_ok-e-in-Volatile t c = entries.arm_qual _ _ _ _ _ _ _ c.args.c _ _ c.requires.0 _ c.path_at.ensures _ c.type_by_id-t.ensures _ c.of-kind.ensures _ _ _ _ _ c.in-Volatile.is c.in_ok-a-in-Volatile.ensures c.in_ok-e-in-Volatile.ensures c.goes_on-in-Volatile.ensures
 
 pub emit_entry-returns-in_err-a-in-Volatile : goal.emit_entry-returns-in_err-a-in-Volatile
-emit_entry-returns-in_err-a-in-Volatile t c = halted _ _ _ _ _ _ _ _ _ (entries.says_qual _ _ _ _ _ _ _ c.args.c _ _ c.requires.0 _ c.path_at.ensures _ c.type_by_id-t.ensures _ c.of-kind.ensures _ _ _ _ c.in-Volatile.is c.in_err-a-in-Volatile.ensures (put_past _ _ (whole _))) c.from_residual-in_err-a-in-Volatile.ensures.1
+emit_entry-returns-in_err-a-in-Volatile t c = halted _ _ _ _ _ _ _ (entries.says_qual _ _ _ _ _ _ _ c.args.c _ _ c.requires.0 _ c.path_at.ensures _ c.type_by_id-t.ensures _ c.of-kind.ensures _ _ _ _ c.in-Volatile.is c.in_err-a-in-Volatile.ensures (put_past _ _ (whole _))) c.from_residual-in_err-a-in-Volatile.ensures.1
 
 pub emit_entry-returns-in_err-e-in-Volatile : goal.emit_entry-returns-in_err-e-in-Volatile
-emit_entry-returns-in_err-e-in-Volatile t c = halted _ _ _ _ _ _ _ _ _ (entries.says_qual _ _ _ _ _ _ _ c.args.c _ _ c.requires.0 _ c.path_at.ensures _ c.type_by_id-t.ensures _ c.of-kind.ensures _ _ _ _ c.in-Volatile.is c.in_ok-a-in-Volatile.ensures c.in_err-e-in-Volatile.ensures) c.from_residual-in_err-e-in-Volatile.ensures.1
+emit_entry-returns-in_err-e-in-Volatile t c = halted _ _ _ _ _ _ _ (entries.says_qual _ _ _ _ _ _ _ c.args.c _ _ c.requires.0 _ c.path_at.ensures _ c.type_by_id-t.ensures _ c.of-kind.ensures _ _ _ _ c.in-Volatile.is c.in_ok-a-in-Volatile.ensures c.in_err-e-in-Volatile.ensures) c.from_residual-in_err-e-in-Volatile.ensures.1
 
 pub emit_entry-returns-in_ok-e-in_default : goal.emit_entry-returns-in_ok-e-in_default
 emit_entry-returns-in_ok-e-in_default t c = entries.arm_tag _ _ _ _ _ _ _ c.args.c _ _ c.requires.0 _ c.path_at.ensures _ c.type_by_id-t.ensures _ c.of-kind.ensures c.requires.1 c.in_default.not-Ptr c.in_default.not-Array c.in_default.not-Volatile c.in_default.not-Const c.in_default.not-Restrict c.in_default.not-FuncProto _ _ _ _ _ _ c.skip_mods-m-in_default.ensures c.in_ok-a-in_default.ensures c.in_ok-e-in_default.ensures c.goes_on-in_default.ensures
 
 pub emit_entry-returns-in_err-a-in_default : goal.emit_entry-returns-in_err-a-in_default
-emit_entry-returns-in_err-a-in_default t c = halted _ _ _ _ _ _ _ _ _ (entries.says_tag _ _ _ _ _ _ _ c.args.c _ _ c.requires.0 _ c.path_at.ensures _ c.type_by_id-t.ensures _ c.of-kind.ensures c.requires.1 c.in_default.not-Ptr c.in_default.not-Array c.in_default.not-Volatile c.in_default.not-Const c.in_default.not-Restrict c.in_default.not-FuncProto _ _ _ _ _ c.skip_mods-m-in_default.ensures.0 c.in_err-a-in_default.ensures (put_past _ _ (whole _))) c.from_residual-in_err-a-in_default.ensures.1
+emit_entry-returns-in_err-a-in_default t c = halted _ _ _ _ _ _ _ (entries.says_tag _ _ _ _ _ _ _ c.args.c _ _ c.requires.0 _ c.path_at.ensures _ c.type_by_id-t.ensures _ c.of-kind.ensures c.requires.1 c.in_default.not-Ptr c.in_default.not-Array c.in_default.not-Volatile c.in_default.not-Const c.in_default.not-Restrict c.in_default.not-FuncProto _ _ _ _ _ c.skip_mods-m-in_default.ensures.0 c.in_err-a-in_default.ensures (put_past _ _ (whole _))) c.from_residual-in_err-a-in_default.ensures.1
 
 pub emit_entry-returns-in_err-e-in_default : goal.emit_entry-returns-in_err-e-in_default
-emit_entry-returns-in_err-e-in_default t c = halted _ _ _ _ _ _ _ _ _ (entries.says_tag _ _ _ _ _ _ _ c.args.c _ _ c.requires.0 _ c.path_at.ensures _ c.type_by_id-t.ensures _ c.of-kind.ensures c.requires.1 c.in_default.not-Ptr c.in_default.not-Array c.in_default.not-Volatile c.in_default.not-Const c.in_default.not-Restrict c.in_default.not-FuncProto _ _ _ _ _ c.skip_mods-m-in_default.ensures.0 c.in_ok-a-in_default.ensures c.in_err-e-in_default.ensures) c.from_residual-in_err-e-in_default.ensures.1
+emit_entry-returns-in_err-e-in_default t c = halted _ _ _ _ _ _ _ (entries.says_tag _ _ _ _ _ _ _ c.args.c _ _ c.requires.0 _ c.path_at.ensures _ c.type_by_id-t.ensures _ c.of-kind.ensures c.requires.1 c.in_default.not-Ptr c.in_default.not-Array c.in_default.not-Volatile c.in_default.not-Const c.in_default.not-Restrict c.in_default.not-FuncProto _ _ _ _ _ c.skip_mods-m-in_default.ensures.0 c.in_ok-a-in_default.ensures c.in_err-e-in_default.ensures) c.from_residual-in_err-e-in_default.ensures.1
 
 pub emit_function-emit_proto-requires : goal.emit_function-emit_proto-requires
 emit_function-emit_proto-requires t c = (omega arith, entries.links_rest _ _ _ _ _ _ c.requires.0 c.skip_mods-m.ensures.0 c.requires.1)
@@ -122,10 +122,10 @@ pub emit_function-returns : goal.emit_function-returns
 emit_function-returns t c = entries.function_put _ _ _ _ _ _ _ _ _ _ _ _ _ _ _ _ _ _ _ _ c.args.t _ c.skip_mods-m.ensures.0 c.entries_of.ensures c.in_ok-a.ensures c.in_ok-f.ensures c.emit_params.ensures
 
 pub emit_function-returns-in_err-a : goal.emit_function-returns-in_err-a
-emit_function-returns-in_err-a t c = entries.function_put _ _ _ _ _ _ _ _ _ _ _ _ _ _ _ _ _ _ _ _ c.args.t _ c.skip_mods-m.ensures.0 refl c.in_err-a.ensures (said_past _ _ _ c.args.work.now) (said_ended _ _ _ _ _ c.from_residual.ensures.1)
+emit_function-returns-in_err-a t c = entries.function_put _ _ _ _ _ _ _ _ _ _ _ _ _ _ _ _ _ _ _ _ c.args.t _ c.skip_mods-m.ensures.0 refl c.in_err-a.ensures (said_past _ _ _ _ c.args.work.now) (said_ended _ _ _ _ _ _ c.from_residual.ensures.1)
 
 pub emit_function-returns-in_err-f : goal.emit_function-returns-in_err-f
-emit_function-returns-in_err-f t c = entries.function_put _ _ _ _ _ _ _ _ _ _ _ _ _ _ _ _ _ _ _ _ c.args.t _ c.skip_mods-m.ensures.0 refl c.in_ok-a.ensures c.in_err-f.ensures (said_ended _ _ _ _ _ c.from_residual-in_err-f.ensures.1)
+emit_function-returns-in_err-f t c = entries.function_put _ _ _ _ _ _ _ _ _ _ _ _ _ _ _ _ _ _ _ _ c.args.t _ c.skip_mods-m.ensures.0 refl c.in_ok-a.ensures c.in_err-f.ensures (said_ended _ _ _ _ _ _ c.from_residual-in_err-f.ensures.1)
 
 pub emit_links-loop-rest-init : goal.emit_links-loop-rest-init
 emit_links-loop-rest-init t c = (leads_start _ _ _ _ _, c.requires)
@@ -155,7 +155,7 @@ pub emit_params-loop-k-init : goal.emit_params-loop-k-init
 emit_params-loop-k-init t c = leads_start _ _ _ _ _
 
 pub emit_params-returns-in_err-p : goal.emit_params-returns-in_err-p
-emit_params-returns-in_err-p t c = members.params_whole _ _ _ _ _ _ _ _ _ _ _ _ _ _ _ c.shown_params-shown.ensures c.in_err-p.ensures (said_ended _ _ _ _ _ c.from_residual.ensures.1)
+emit_params-returns-in_err-p t c = members.params_whole _ _ _ _ _ _ _ _ _ _ _ _ _ _ _ c.shown_params-shown.ensures c.in_err-p.ensures (members.params_stop _ _ _ _ _ _ _ _ _ _ c.from_residual.ensures.1)
 
 pub emit_params-loop-k-preserved : goal.emit_params-loop-k-preserved
 emit_params-loop-k-preserved t c = members.params_again _ _ _ _ _ _ _ _ _ _ _ _ _ _ _ _ c.loop-k-test.true c.loop-k.invariant c.in_ok-p-2.ensures
@@ -173,7 +173,7 @@ pub emit_proto-returns : goal.emit_proto-returns
 emit_proto-returns t c = entries.proto_some _ _ _ _ _ _ _ _ _ _ _ c.if-c-eq0.false _ _ _ _ _ _ _ c.in_ok-a.ensures c.in_ok-e.ensures c.put_byte.ensures
 
 pub emit_proto-returns-in_err-a : goal.emit_proto-returns-in_err-a
-emit_proto-returns-in_err-a t c = entries.proto_some _ _ _ _ _ _ _ _ _ _ _ c.if-c-eq0.false _ _ _ _ _ _ _ c.in_err-a.ensures (said_past _ _ _ _) (put_ended _ _ _ _ c.from_residual.ensures.1)
+emit_proto-returns-in_err-a t c = entries.proto_some _ _ _ _ _ _ _ _ _ _ _ c.if-c-eq0.false _ _ _ _ _ _ _ c.in_err-a.ensures (said_past _ _ _ _ _) (put_ended _ _ _ _ c.from_residual.ensures.1)
 
 pub emit_proto-returns-in_err-e : goal.emit_proto-returns-in_err-e
 emit_proto-returns-in_err-e t c = entries.proto_some _ _ _ _ _ _ _ _ _ _ _ c.if-c-eq0.false _ _ _ _ _ _ _ c.in_ok-a.ensures c.in_err-e.ensures (put_ended _ _ _ _ c.from_residual-in_err-e.ensures.1)
@@ -206,10 +206,10 @@ pub members::emit_composite_def-returns : goal.members::emit_composite_def-retur
 members::emit_composite_def-returns t c = members.def_body _ _ _ _ _ _ _ _ _ _ _ _ _ c.if-left-eq0.false (sym c.is_builtin.ensures ∙ c.if-is_builtin.false) _ _ c.in_ok-packed.ensures _ _ _ _ _ _ _ _ _ refl refl c.in_ok-a.ensures c.in_ok-c.ensures c.emit_composite_end.ensures
 
 pub members::emit_composite_def-returns-in_err-a : goal.members::emit_composite_def-returns-in_err-a
-members::emit_composite_def-returns-in_err-a t c = members.def_body _ _ _ _ _ _ _ _ _ _ _ _ _ c.if-left-eq0.false (sym c.is_builtin.ensures ∙ c.if-is_builtin.false) _ _ c.in_ok-packed.ensures _ _ _ _ _ _ _ _ _ refl refl c.in_err-a.ensures (said_past _ _ _ _) (said_ended _ _ _ _ _ c.from_residual-in_err-a.ensures.1)
+members::emit_composite_def-returns-in_err-a t c = members.def_body _ _ _ _ _ _ _ _ _ _ _ _ _ c.if-left-eq0.false (sym c.is_builtin.ensures ∙ c.if-is_builtin.false) _ _ c.in_ok-packed.ensures _ _ _ _ _ _ _ _ _ refl refl c.in_err-a.ensures (said_past _ _ _ _ _) (said_ended _ _ _ _ _ _ c.from_residual-in_err-a.ensures.1)
 
 pub members::emit_composite_def-returns-in_err-c : goal.members::emit_composite_def-returns-in_err-c
-members::emit_composite_def-returns-in_err-c t c = members.def_body _ _ _ _ _ _ _ _ _ _ _ _ _ c.if-left-eq0.false (sym c.is_builtin.ensures ∙ c.if-is_builtin.false) _ _ c.in_ok-packed.ensures _ _ _ _ _ _ _ _ _ refl refl c.in_ok-a.ensures c.in_err-c.ensures (said_ended _ _ _ _ _ c.from_residual-in_err-c.ensures.1)
+members::emit_composite_def-returns-in_err-c t c = members.def_body _ _ _ _ _ _ _ _ _ _ _ _ _ c.if-left-eq0.false (sym c.is_builtin.ensures ∙ c.if-is_builtin.false) _ _ c.in_ok-packed.ensures _ _ _ _ _ _ _ _ _ refl refl c.in_ok-a.ensures c.in_err-c.ensures (said_ended _ _ _ _ _ _ c.from_residual-in_err-c.ensures.1)
 
 pub members::emit_composite_def-returns-in_err-packed : goal.members::emit_composite_def-returns-in_err-packed
 members::emit_composite_def-returns-in_err-packed t c = members.def_refused _ _ _ _ _ _ _ _ _ _ _ _ c.if-left-eq0.false (sym c.is_builtin.ensures ∙ c.if-is_builtin.false) _ _ c.in_err-packed.ensures _ _ refl c.from_residual.ensures.1
@@ -218,16 +218,16 @@ pub members::emit_member-returns : goal.members::emit_member-returns
 members::emit_member-returns t c = (members.member_said _ _ _ _ _ _ _ _ _ _ _ _ _ _ _ _ _ _ _ _ _ _ _ _ _ _ c.load_member-m.ensures c.bare.ensures c.deeper-lvl.ensures c.in_ok-a.ensures c.in_ok-c.ensures c.in_ok-e.ensures c.in_ok-f.ensures c.emit_member_end.ensures.0, members.member_ends _ _ _ _ _ _ _ c.load_member-m.ensures c.emit_member_end.ensures.1)
 
 pub members::emit_member-returns-in_err-a : goal.members::emit_member-returns-in_err-a
-members::emit_member-returns-in_err-a t c = halted _ _ _ _ _ _ _ _ _ (members.member_said _ _ _ _ _ _ _ _ _ _ _ _ _ _ _ _ _ _ _ _ _ _ _ _ _ _ c.load_member-m.ensures c.bare.ensures c.deeper-lvl.ensures c.in_err-a.ensures (put_past _ _ (whole _)) (put_past _ _ (whole _)) (said_past _ _ _ _) (said_past _ _ _ _)) c.from_residual.ensures.1
+members::emit_member-returns-in_err-a t c = halted _ _ _ _ _ _ _ (members.member_said _ _ _ _ _ _ _ _ _ _ _ _ _ _ _ _ _ _ _ _ _ _ _ _ _ _ c.load_member-m.ensures c.bare.ensures c.deeper-lvl.ensures c.in_err-a.ensures (put_past _ _ (whole _)) (put_past _ _ (whole _)) (said_past _ _ _ _ _) (said_past _ _ _ _ _)) c.from_residual.ensures.1
 
 pub members::emit_member-returns-in_err-c : goal.members::emit_member-returns-in_err-c
-members::emit_member-returns-in_err-c t c = halted _ _ _ _ _ _ _ _ _ (members.member_said _ _ _ _ _ _ _ _ _ _ _ _ _ _ _ _ _ _ _ _ _ _ _ _ _ _ c.load_member-m.ensures c.bare.ensures c.deeper-lvl.ensures c.in_ok-a.ensures c.in_err-c.ensures (put_past _ _ (whole _)) (said_past _ _ _ _) (said_past _ _ _ _)) c.from_residual-in_err-c.ensures.1
+members::emit_member-returns-in_err-c t c = halted _ _ _ _ _ _ _ (members.member_said _ _ _ _ _ _ _ _ _ _ _ _ _ _ _ _ _ _ _ _ _ _ _ _ _ _ c.load_member-m.ensures c.bare.ensures c.deeper-lvl.ensures c.in_ok-a.ensures c.in_err-c.ensures (put_past _ _ (whole _)) (said_past _ _ _ _ _) (said_past _ _ _ _ _)) c.from_residual-in_err-c.ensures.1
 
 pub members::emit_member-returns-in_err-e : goal.members::emit_member-returns-in_err-e
-members::emit_member-returns-in_err-e t c = halted _ _ _ _ _ _ _ _ _ (members.member_said _ _ _ _ _ _ _ _ _ _ _ _ _ _ _ _ _ _ _ _ _ _ _ _ _ _ c.load_member-m.ensures c.bare.ensures c.deeper-lvl.ensures c.in_ok-a.ensures c.in_ok-c.ensures c.in_err-e.ensures (said_past _ _ _ _) (said_past _ _ _ _)) c.from_residual-in_err-e.ensures.1
+members::emit_member-returns-in_err-e t c = halted _ _ _ _ _ _ _ (members.member_said _ _ _ _ _ _ _ _ _ _ _ _ _ _ _ _ _ _ _ _ _ _ _ _ _ _ c.load_member-m.ensures c.bare.ensures c.deeper-lvl.ensures c.in_ok-a.ensures c.in_ok-c.ensures c.in_err-e.ensures (said_past _ _ _ _ _) (said_past _ _ _ _ _)) c.from_residual-in_err-e.ensures.1
 
 pub members::emit_member-returns-in_err-f : goal.members::emit_member-returns-in_err-f
-members::emit_member-returns-in_err-f t c = halted _ _ _ _ _ _ _ _ _ (members.member_said _ _ _ _ _ _ _ _ _ _ _ _ _ _ _ _ _ _ _ _ _ _ _ _ _ _ c.load_member-m.ensures c.bare.ensures c.deeper-lvl.ensures c.in_ok-a.ensures c.in_ok-c.ensures c.in_ok-e.ensures c.in_err-f.ensures (said_past _ _ _ _)) c.from_residual-in_err-f.ensures.1
+members::emit_member-returns-in_err-f t c = halted _ _ _ _ _ _ _ (members.member_said _ _ _ _ _ _ _ _ _ _ _ _ _ _ _ _ _ _ _ _ _ _ _ _ _ _ c.load_member-m.ensures c.bare.ensures c.deeper-lvl.ensures c.in_ok-a.ensures c.in_ok-c.ensures c.in_ok-e.ensures c.in_err-f.ensures (said_past _ _ _ _ _)) c.from_residual-in_err-f.ensures.1
 
 pub members::emit_members-loop-k-init : goal.members::emit_members-loop-k-init
 members::emit_members-loop-k-init t c = leads_start _ _ _ _ _
