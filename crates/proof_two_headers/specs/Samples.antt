@@ -94,6 +94,11 @@ shared_samples =
     ∷ gives
     (header module' (opens kernel 0 usual 1 ∷ opens module' 0 usual 3 ∷ asks kernel usual (one 0 1) ∷ asks module' usual (all 100) ∷ []))
     "struct x___2 {};\n\nstruct y {};\n\n"
+    -- and no more than these: `enum e {` has no room, so the value's name is not taken
+    ∷ gives
+    (header_of (calls (λ d. others) new_world (opens kernel 0 usual 2 ∷ opens module' 0 usual 2 ∷ asks kernel usual (one 7 3)
+    ∷ asks module' usual (one 100 3) ∷ [])) module')
+    "enum e___2 {\n\ta = 0,\n};\n\n"
     -- different names may be spelled alike, in two headers as in one: a suffix yields the other's own name
     ∷ gives (trio_header kernel) "struct x {};\n\nstruct x___2 {};\n\n"
     ∷ gives (trio_header module') "struct x___2 {};\n\n"
