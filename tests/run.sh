@@ -42,6 +42,9 @@ echo "README: its example prints the sample"
 
 python3 tests/traps.py --check
 python3 -B tests/words.py "$library"
+needs=$(nm -u "$library" | awk '$1 == "U" { print $2 }' | sort -u | tr '\n' ' ')
+[ "$needs" = "memset " ] || { echo "run.sh: of the C library the archive needs ${needs}and not memset alone" >&2; exit 1; }
+echo "library: of the C library it needs memset alone"
 
 shopt -s nullglob
 # by chance: tables with references of all kinds; names that meet, in both naming modes, with the texts that Python computes

@@ -1,2 +1,3 @@
--- Laws that speak of no bytes.
+-- Laws of loops.
 pub mod TryFolds
+mod Copies

@@ -6,6 +6,7 @@ use Rattle.std.proofs.lemmas.Iterator.{YieldsList}
 use Rattle.std.specs.Prelude.{Option, Some, None, Result, Ok, Err}
 use Rattle.std.specs.Result.{MatchResult, IsErr, IsErrAnd}
 use Rattle.std.specs.Option.{MatchOption}
+use Rattle.std.specs.ControlFlow.{continue_value}
 use Rattle.std.specs.declared.ops.ControlFlow.{ControlFlow}
 use Rattle.std.specs.declared.ops.ControlFlow.TheVariants.{Continue, Break}
 use Rattle.std.specs.Fn.{Called}
@@ -48,6 +49,21 @@ try_fold_from_yields_List : {S A B C F R Y : Type 0} {steps : S → Option A →
     → ((c : C) (r : R) → Goes r (Continue c) → Model c [] r) → ((c : C) (x : A) (w : R) (q : F) → Called g f (c, (x, tt)) w q → (q ≡ f) × IsModelled v Goes Ends Model c x w) → Model init all r
 try_fold_from_yields_List {steps = steps} {v = v} {s = s} {all = all} g {f = f} Goes Ends init r u (xs, o, j, a, (t, y, n), c, w) e Model ends turn =
     run v Goes Ends Model steps g f ends turn all xs o s (f, init) r e.runs refl (t, u, (j, a), y, n, c, w)
+
+-- to an Option: it breaks off at None
+module _ {A B C : Type 0} (v : A → B) (Model : C → List B → Option C → Type 0) where
+  abbrev pub OptionTurn : C → A → Option C → Type 0
+  OptionTurn c x w = MatchOption w ((ys : List B) → Model c (v x ∷ ys) None) (λ d. (ys : List B) (r : Option C) → Model d ys r → Model c (v x ∷ ys) r)
+
+  option_modelled : {Y : Type 0} (c : C) (x : A) (w : Option C) → OptionTurn c x w
+      → IsModelled v (λ w (b : ControlFlow Y C). w ≡ continue_value b) (λ (e : Y) (r : Option C). r ≡ None) Model c x w
+  option_modelled c x w h = (λ d e. subst (OptionTurn c x) e h, λ y e ys r k. subst (Model c (v x ∷ ys)) (sym k) (subst (OptionTurn c x) e h ys))
+
+pub try_fold_option_from_yields_List : {S A B C F Y : Type 0} {steps : S → Option A → S → Type 0} {v : A → B} {s : S} {all : List B} (g : Mut F (C × (A × Unit {0})) (Option C)) {f : F} (init : C) (r : Option C) (u : S)
+    → TryFoldsItems steps g (λ (w : Option C) (b : ControlFlow Y C). w ≡ continue_value b) (λ (e : Y) (o : Option C). o ≡ None) s f init r u → YieldsList steps v s all → (Model : C → List B → Option C → Type 0)
+    → ((c : C) → Model c [] (Some c)) → ((c : C) (x : A) (w : Option C) (q : F) → Called g f (c, (x, tt)) w q → (q ≡ f) × OptionTurn v Model c x w) → Model init all r
+try_fold_option_from_yields_List {C = C} {Y = Y} {v = v} g init r u ran list Model ends turn =
+    try_fold_from_yields_List g (λ (w : Option C) (b : ControlFlow Y C). w ≡ continue_value b) (λ (e : Y) (o : Option C). o ≡ None) init r u ran list Model (λ c r e. subst (Model c []) (sym e) (ends c)) (λ c x w q d. ((turn c x w q d).0, option_modelled v Model c x w (turn c x w q d).1))
 
 -- to a Result: it breaks off at an Err
 module _ {A B C X : Type 0} (v : A → B) (Model : C → List B → Result C X → Type 0) where

@@ -1,2 +1,3 @@
 pub mod Based
 pub mod Before
+pub mod Found

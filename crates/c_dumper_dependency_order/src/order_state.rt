@@ -1,5 +1,5 @@
 // What ordering keeps: the order states of the types and the order list, both in the work words, and what it has come to.
-ghost use Rattle.std.specs.Prelude.{◌≡◌};
+ghost use Rattle.std.specs.Prelude.{◌≡◌, false};
 ghost use Rattle.spec_c_dumper.specs.rules.Order.{is_done};
 ghost use Rattle.spec_type_table.specs.Cells.{get_field, put_field};
 ghost use Rattle.c_dumper_dependency_order.specs.order_state.Work.{mark_is, mark_of, code, strong_of, refused_by};
@@ -63,6 +63,16 @@ impl Order {
             made: self.made,
         }
     }
+
+    // The same by a number, of no refusal too: no way goes on from there, so none was strong.
+    pub fn stopped_by(self, number: u32) -> Stopped
+        ensures { result ≡ record { order = strong_of self false; number = number } }
+    {
+        Stopped {
+            order: self.strong(false),
+            number,
+        }
+    }
 }
 
 // What stopped it: a refusal, and the calls made by then.
@@ -70,6 +80,13 @@ impl Order {
 pub struct Halted {
     pub refusal: Refusal,
     pub made: u64,
+}
+
+// What it had come to when a number stopped it.
+#[derive(Clone, Copy)]
+pub struct Stopped {
+    pub order: Order,
+    pub number: u32,
 }
 
 // The mark of a type in a word of its cell: cell::ORDER_STATE, or cell::EMIT_STATE for emission.

@@ -180,7 +180,7 @@ impl Emission<'_> {
             (λ m. at_emission leaf_n self.now work.old list.old fwd cont m x.id) }
     {
         if fwd || cont == 0 {
-            let e = self.origin_at(Cause::ForwardLine, x.id, cont);
+            let e = self.origin_at(u32::from(Cause::ForwardLine), x.id, cont);
             let a = self.define(work, text, list, p, x, e)?;
             set_mark(work, x.id, cell::EMIT_STATE, Mark::Done);
             return Ok(a);

@@ -42,11 +42,11 @@ impl From<Cause> for u32 {
     }
 }
 
-// An entry: the id of a line, its cause, and the id that led there.
+// An entry: the id of a line, the number of its cause, whatever it is, and the id that led there.
 #[derive(Clone, Copy)]
 pub struct Origin {
     pub id: u32,
-    pub cause: Cause,
+    pub cause: u32,
     pub leader: u32,
 }
 
@@ -58,20 +58,20 @@ impl Emission<'_> {
         if id == self.request.req {
             return Origin {
                 id,
-                cause: Cause::Requested,
+                cause: u32::from(Cause::Requested),
                 leader: id,
             };
         }
         Origin {
             id,
-            cause: Cause::Needed,
+            cause: u32::from(Cause::Needed),
             leader: leader_of(self.leaders, self.request.req, self.request.turn, id),
         }
     }
 
     // At the top a line is there because its id is listed, within a container because of that.
-    pub fn origin_at(&self, within: Cause, id: u32, cont: u32) -> Origin
-        ensures { entry_of result ≡ cause_at (cause_code within)
+    pub fn origin_at(&self, within: u32, id: u32, cont: u32) -> Origin
+        ensures { entry_of result ≡ cause_at within
             (entry_in self.now.request.req self.now.request.turn (leader_words self.now.leaders.now) id) id cont }
     {
         if cont == 0 {
@@ -91,7 +91,7 @@ pub fn forward_origin(id: u32, cont: u32) -> Origin
 {
     Origin {
         id,
-        cause: Cause::ForwardLine,
+        cause: u32::from(Cause::ForwardLine),
         leader: cont,
     }
 }
@@ -128,7 +128,7 @@ pub fn note_if(list: &mut [u8], p: Pen, e: Origin, shown: bool) -> Result<Pen, R
         (λ m. note_if_n shown (entries_in list.old) (entry_of e) m) }
 {
     if shown {
-        return note(list, p, e.id, u32::from(e.cause), e.leader);
+        return note(list, p, e.id, e.cause, e.leader);
     }
     Ok(p)
 }

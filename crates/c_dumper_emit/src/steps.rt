@@ -91,7 +91,7 @@ impl Emission<'_> {
                 self.emit_mention(work, text, list, p, x, cont)
             }
             Kind::Typedef => {
-                let e = self.origin_at(Cause::EarlyTypedef, id, cont);
+                let e = self.origin_at(u32::from(Cause::EarlyTypedef), id, cont);
                 self.emit_once(work, text, list, p, x, e)
             }
             _ => Ok(p),
@@ -157,7 +157,7 @@ impl Emission<'_> {
             (type_of self.now.table.head self.now.table.section.now x.t)
             (cause_at 3 (entry_in self.now.request.req self.now.request.turn (leader_words self.now.leaders.now) x.id) x.id cont) m x.id) }
     {
-        let e = self.origin_at(Cause::EarlyTypedef, x.id, cont);
+        let e = self.origin_at(u32::from(Cause::EarlyTypedef), x.id, cont);
         let a = self.emit_once(work, text, list, p, x, e)?;
         set_mark(work, x.id, cell::EMIT_STATE, Mark::Done);
         Ok(a)

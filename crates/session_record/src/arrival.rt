@@ -6,10 +6,10 @@ ghost use Rattle.spec_session.specs.calls.Calls.{limit_of};
 ghost use Rattle.spec_session.specs.calls.Lists.{count_in, tailed, list_end};
 ghost use Rattle.session_record.specs.arrival.Arrival.{clipped, arrived_in};
 
-use crate::settle::{answer_of, clear_from, stays_open, with_text};
+use crate::numbered::{NumberedTally, settle_list_number, stop_number};
+use crate::settle::{answer_of, clear_from};
 use base_bytes::limit;
 use base_bytes::refusal::Refusal;
-use base_bytes::word::clear;
 use spec_session::session::{Reached, Session, Tally, Turn};
 
 // How far a text slice may be written after its first bytes: 1,073,741,824 bytes at most, but what is written already stays. (No min
@@ -24,7 +24,7 @@ pub fn limit(text_len: usize, from: usize) -> usize
 }
 
 // A sum of 32 bits, or the largest such number.
-fn sum(a: u32, n: usize) -> u32
+pub(crate) fn sum(a: u32, n: usize) -> u32
     ensures { result ≡ clipped (a + n) }
 {
     u32::try_from((a as usize).saturating_add(n)).unwrap_or(u32::MAX)
@@ -71,19 +71,15 @@ pub fn settle_list(s: Session, work: &mut [u8], text: &mut [u8], r: Tally) -> Tu
     ensures { call_of result.session (answer_is result.answer) work.new text.new
         ≡ list_end s r work.old text.old }
 {
-    let len = r.len;
-    let answer = answer_of(r.stop, r.accepted);
-    if stays_open(r.stop) {
-        clear_after(text, r.accepted, len as usize);
-        return Turn {
-            session: with_text(s, true, len, r.visits),
-            answer: answer,
-        };
-    }
-    clear_from(text, len as usize);
-    clear(work);
+    let by_number = NumberedTally {
+        len: r.len,
+        number: stop_number(r.stop),
+        accepted: r.accepted,
+        visits: r.visits,
+    };
+    let t = settle_list_number(s, work, text, by_number);
     Turn {
-        session: with_text(s, false, len, r.visits),
-        answer: answer,
+        session: t.session,
+        answer: answer_of(r.stop, t.value),
     }
 }

@@ -18,7 +18,11 @@ pub const RECORD_BYTES: usize = 128;
 // Words of the record that are used, of sixteen.
 const USED_WORDS: usize = 9;
 
-// The answer 255 with value 0, for a slice that is shorter than C promises: no refusal has this number.
+// Answers of a refusal and the value 0: 11, 19, and 255 for a slice that is shorter than C promises, which is no refusal's number.
+pub const ANSWER_CLOSED: u64 = 11 * limit::TWO_TO_32;
+
+pub const ANSWER_NO_DECLARATION: u64 = 19 * limit::TWO_TO_32;
+
 pub const ANSWER_SHORT_SLICE: u64 = 255 * limit::TWO_TO_32;
 
 // Any number and value; of an answer that is accepted the number is 0.

@@ -1,9 +1,10 @@
 // What every call of a session shares: cause 11, and how it ends.
-ghost use Rattle.std.specs.Prelude.{◌≡◌, ltb, length};
+ghost use Rattle.std.specs.Prelude.{◌≡◌, leb, ltb, length};
 ghost use Rattle.spec_bytes.specs.Refusals.{refusal_number};
 ghost use Rattle.spec_session.specs.session.Answers.{answer_is, answer_of, stop_number, stays_open};
 ghost use Rattle.spec_session.specs.session.Turns.{call_of, refused_turn, is_current, reach_of, with_text, then_zeros, visits_in, settled};
 
+use crate::numbered::{NumberedReach, settle_number, stop_number};
 use base_bytes::refusal::Refusal;
 use base_bytes::word::{clear, get_word};
 use btf_type_table::cell;
@@ -30,11 +31,25 @@ pub fn refused(s: Session, refusal: Refusal, value: u32) -> Turn
     }
 }
 
+// As is_kept, of any number.
+pub(crate) fn is_kept_number(number: u32) -> bool
+    ensures { result ≡ ltb number 12 }
+{
+    number < u32::from(Refusal::TooDeep)
+}
+
 // Whether a refusal leaves the session and its record as they were: 10 and 11 do, and those of opening, which come to no request.
 pub fn is_kept(refusal: Refusal) -> bool
     ensures { result ≡ ltb (refusal_number refusal) 12 }
 {
-    u32::from(refusal) < u32::from(Refusal::TooDeep)
+    is_kept_number(u32::from(refusal))
+}
+
+// As stays_open, of any number.
+pub(crate) fn stays_open_number(number: u32) -> bool
+    ensures { result ≡ leb number 10 }
+{
+    number <= u32::from(Refusal::NoSuchId)
 }
 
 // Whether the session stays open: after no refusal, and after 10 (those of opening come to no request). 11 is tested before.
@@ -43,7 +58,7 @@ pub fn stays_open(stop: Option<Refusal>) -> bool
 {
     match stop {
         None => true,
-        Some(refusal) => u32::from(refusal) <= u32::from(Refusal::NoSuchId),
+        Some(refusal) => stays_open_number(u32::from(refusal)),
     }
 }
 
@@ -93,15 +108,14 @@ pub fn settle(s: Session, work: &mut [u8], text: &mut [u8], r: Reached) -> Turn
     ensures { call_of result.session (answer_is result.answer) work.new text.new
         ≡ settled s (length work.old) (length text.old) (reach_of r work.old text.old) }
 {
-    clear_from(text, r.len as usize);
-    match r.stop {
-        None => Turn {
-            session: with_text(s, true, r.len, visits_in(work)),
-            answer: Ok(r.len),
-        },
-        Some(refusal) => {
-            clear(work);
-            refused(with_text(s, false, r.len, r.visits), refusal, r.len)
-        }
+    let by_number = NumberedReach {
+        len: r.len,
+        number: stop_number(r.stop),
+        visits: r.visits,
+    };
+    let t = settle_number(s, work, text, by_number);
+    Turn {
+        session: t.session,
+        answer: answer_of(r.stop, t.value),
     }
 }

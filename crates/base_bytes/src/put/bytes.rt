@@ -2,9 +2,9 @@
 // Text and place stay two parameters: a struct that holds the `&mut` owes each function a clause more (docs/DESIGN-PASS.md).
 #![tactic(auto, using(spec_bytes::proofs::text::TextLaws::steps))]
 
-ghost use Rattle.std.specs.Prelude.{◌≡◌, ◌∷◌, [], Ok};
+ghost use Rattle.std.specs.Prelude.{◌≡◌, ◌≤◌, ◌+◌, ◌∷◌, [], length, Ok};
 ghost use Rattle.spec_bytes.specs.text.Text.{whole, pfx};
-ghost use Rattle.spec_bytes.specs.text.Placed.{put_out, put_text};
+ghost use Rattle.spec_bytes.specs.text.Placed.{put_out, place, put_text};
 
 use crate::refusal::Refusal;
 
@@ -21,8 +21,19 @@ pub fn put_bytes(text: &mut [u8], at: usize, src: &[u8]) -> Result<usize, Refusa
     if text.len().saturating_sub(at) < src.len() {
         return Err(Refusal::TextFull);
     }
-    text[at..at + src.len()].copy_from_slice(src);
+    copy(text, at, src);
     Ok(at + src.len())
+}
+
+// Copies src into the text from `at` on. (A loop: copy_from_slice calls memmove or memcpy of the C library, which the archive does
+// without.)
+fn copy(text: &mut [u8], at: usize, src: &[u8])
+    requires { at + length src.now ≤ length text.old }
+    ensures { text.new ≡ place text.old at src.now }
+{
+    for k in 0..src.len() {
+        text[at + k] = src[k];
+    }
 }
 
 // Writes one byte.

@@ -13,7 +13,16 @@ pub fn put_integer<I: Integer>(text: &mut [u8], at: usize, n: I) -> Result<usize
     ensures { put_out result text.new ≡ put_text text.old (Ok at) (whole (I.text n)) }
 {
     let mut digits = Buffer::new();
-    put_bytes(text, at, digits.format(n).as_bytes())
+    put_digits(text, at, digits.format(n).as_bytes())
+}
+
+// Writes the digits of a number. (Not written out at each call: where the compiler sees that the buffer lies apart from the text, it makes
+// a memcpy of the loop.)
+#[inline(never)]
+fn put_digits(text: &mut [u8], at: usize, digits: &[u8]) -> Result<usize, Refusal>
+    ensures { put_out result text.new ≡ put_text text.old (Ok at) (whole digits.now) }
+{
+    put_bytes(text, at, digits)
 }
 
 // Writes n.

@@ -121,7 +121,7 @@ module _ (b : TypeTable) (s w : List ℕ) (m : BtfMember) where
     end_unsized c g = then_err (λ n. ask_then (checked (8 * n)) (λ bits. checked (m.bit_offset + bits))) q c g ∙ sym end_plain
 
     module _ (n : ℕ) (g : q ≡ Ok n) (p : Code) (ep : ask_of p ≡ checked (n * 8)) where
-      end_sized : end_of (btf_of b s w) (rule_member b s m) ≡ ask_then (ask_of p) (λ bits. checked (m.bit_offset + bits))
+      pub end_sized : end_of (btf_of b s w) (rule_member b s m) ≡ ask_then (ask_of p) (λ bits. checked (m.bit_offset + bits))
       unfolding ask_of ask_then
       end_sized =
           let z : 8 * n ≡ n * 8 = omega arith in

@@ -1,26 +1,22 @@
 -- Laws of suffixes, byte by byte. Assumes nothing.
-use Prim.Native.Nat.{ℕ, zero, suc, ◌+◌, ◌-◌, ◌*◌, ◌^◌, ◌≤◌, ◌<◌}
+use Prim.Native.Nat.{ℕ, zero, suc, ◌+◌, ◌-◌, ◌*◌, ◌≤◌, ◌<◌}
 use mathlib.Core.Path.{◌≡◌, refl, ap, ap₂, ◌∙◌, sym}
-use mathlib.Core.List.{List, [], ◌∷◌, ◌++◌}
-use mathlib.Core.Bool.{Bool, true, false, ◌&&◌, false≢true}
-use mathlib.Core.Logic.{⊎_elim}
+use mathlib.Core.List.{List, [], ◌∷◌}
+use mathlib.Core.Bool.{Bool, true, false, ◌&&◌}
+use mathlib.Core.Logic.{◌⊎◌, inl, inr, ⊎_elim}
 use native.Mathlib.Omega.{arith}
 use native.Mathlib.Decide.{ℕ_discrete}
 use lib.ListN.{length, get_or}
 use lib.Dec.{leb}
 use borrow.Author.Tests.{le-leb, lt-leb, eq-eqb, ne_eqb}
 use Rattle.std.proofs.lemmas.Bool.{cases_lt}
-use Rattle.std.proofs.lemmas.Str.{IsUtf8-from_ascii}
-use Rattle.std.proofs.lemmas.Str.Parse.{IsNumeralModel, numerals_by_fold, tells_all_ascii_digits, parse_digits}
-use Rattle.std.proofs.Common.{unwrap_or}
-use Rattle.std.specs.Prelude.{Result, Ok, Err}
-use Rattle.std.specs.Result.{OkIff, result_ok}
-use Rattle.std.specs.Char.{is_ascii_digit}
-use Rattle.std.specs.List.{list_all}
-use Rattle.std.specs.Str.{IsUtf8, all_ascii_digits}
-use Rattle.std.specs.Str.Parse.{ParsesUnsigned}
+use Rattle.std.proofs.Common.{Option, None, Some, unwrap_or}
+use Rattle.std.specs.Option.{MatchOption}
+use Rattle.btf_open_names.specs.suffixes.Found.{unless_zero}
+use Rattle.btf_open_names.proofs.suffixes.Found.{none_zero, some_number}
 use Rattle.spec_bytes.specs.words.Words.{pick}
-use Rattle.spec_type_table.specs.Names.{up_to_zero}
+use Rattle.spec_type_table.specs.Names.{up_to_zero, name_at}
+use Rattle.spec_type_table.proofs.NameLaws.{name_more, name_zero, name_end}
 use Rattle.btf_open_names.specs.filled_work.Takers.{digit_after, numeral_from, numeral, after_underscores, suffix_in, suffix_on}
 
 -- ---- digit_after
@@ -35,123 +31,33 @@ module _ (acc x : ℕ) where
   pub digit_high : 48 ≤ x → 57 < x → 0 ≡ digit_after acc x
   digit_high l h = sym (by_tests true false (leb (acc * 10 + (x - 48)) 4294967295) (le-leb 48 x l) (lt-leb x 57 h) refl)
 
+  pub digit_not : (x < 48) ⊎ (57 < x) → 0 ≡ digit_after acc x
+  digit_not (inl h) = digit_low h
+  digit_not (inr h) = ⊎_elim (λ l. digit_low l) (λ l. digit_high l h) (cases_lt x 48)
+
   pub digit_past : (v : ℕ) → 48 ≤ x → x ≤ 57 → v ≡ acc * 10 + (x - 48) → 4294967295 < v → 0 ≡ digit_after acc x
   digit_past v l h e m = sym (by_tests true true false (le-leb 48 x l) (le-leb x 57 h) (lt-leb (acc * 10 + (x - 48)) 4294967295 (omega (arith, e))))
 
   pub digit_next : (v : ℕ) → 48 ≤ x → x ≤ 57 → v ≡ acc * 10 + (x - 48) → v ≤ 4294967295 → v ≡ digit_after acc x
   digit_next v l h e m = e ∙ sym (by_tests true true true (le-leb 48 x l) (le-leb x 57 h) (le-leb (acc * 10 + (x - 48)) 4294967295 (omega (arith, e))))
 
--- ---- numeral, as `parse` reads it
-abbrev value_from : ℕ → List ℕ → ℕ
-value_from acc [] = acc
-value_from acc (x ∷ l) = value_from (acc * 10 + (x - 48)) l
+-- ---- numeral, by its digits
+abbrev pub Numbers : ℕ → List ℕ → Option ℕ → Type 0
+Numbers acc l r = unwrap_or r 0 ≡ numeral_from acc l
 
-own : IsNumeralModel (λ l. all_ascii_digits l ≡ true) (value_from 0)
-own = numerals_by_fold _ tells_all_ascii_digits value_from (record { empty = λ n. refl; more = λ n c cs k. refl })
-
-value_grows : (acc : ℕ) (l : List ℕ) → acc ≤ value_from acc l
-value_grows acc [] = omega arith
-value_grows acc (x ∷ l) = omega (arith, value_grows (acc * 10 + (x - 48)) l)
-
--- after a digit that was read as v
-abbrev after : ℕ → List ℕ → ℕ
-after v l = elim v as (λ z. ℕ) [ zero ↦ 0 | suc u ↦ numeral_from (suc u) l ]
-
-after_digit : (acc x : ℕ) (l : List ℕ) (v : ℕ) → v ≡ digit_after acc x → numeral_from acc (x ∷ l) ≡ after v l
+pub numeral_end : (acc : ℕ) → Numbers acc [] (Some acc)
 unfolding numeral_from
-after_digit acc x l v e = ap (λ (z : ℕ). after z l) (sym e)
+numeral_end acc = refl
 
-after_some : (v : ℕ) (l : List ℕ) → 1 ≤ v → after v l ≡ numeral_from v l
-after_some zero l h = absurd (omega arith)
-after_some (suc v) l h = refl
+module _ (acc x : ℕ) where
+  by_digit : (v : ℕ) (l : List ℕ) → v ≡ digit_after acc x → numeral_from acc (x ∷ l) ≡ elim v as (λ z. ℕ) [ zero ↦ 0 | suc u ↦ numeral_from (suc u) l ]
+  unfolding numeral_from
+  by_digit v l e = ap (λ (z : ℕ). elim z as (λ y. ℕ) [ zero ↦ 0 | suc u ↦ numeral_from (suc u) l ]) (sym e)
 
-digit_not : (acc x : ℕ) → is_ascii_digit x ≡ false → 0 ≡ digit_after acc x
-unfolding digit_after
-digit_not acc x = go (leb 48 x) (leb x 57)
-  where
-    go : (p q : Bool) → (p && q) ≡ false → 0 ≡ pick (p && q && leb (acc * 10 + (x - 48)) 4294967295) (acc * 10 + (x - 48)) 0
-    go true true e = absurd (false≢true (sym e))
-    go true false e = refl
-    go false q e = refl
-
-pub numeral_other : (acc : ℕ) (l : List ℕ) → all_ascii_digits l ≡ false → 0 ≡ numeral_from acc l
-numeral_other acc [] e = absurd (false≢true (sym e))
-numeral_other acc (x ∷ l) e = go (is_ascii_digit x) refl e (λ q v. numeral_other v l q)
-  where
-    any : (v : ℕ) → ((u : ℕ) → 0 ≡ numeral_from u l) → 0 ≡ after v l
-    any zero h = refl
-    any (suc v) h = h (suc v)
-
-    go : (t : Bool) → is_ascii_digit x ≡ t → (t && all_ascii_digits l) ≡ false → (all_ascii_digits l ≡ false → (u : ℕ) → 0 ≡ numeral_from u l) → 0 ≡ numeral_from acc (x ∷ l)
-    go true d q h = any (digit_after acc x) (h q) ∙ sym (after_digit acc x l (digit_after acc x) refl)
-    go false d q h = sym (after_digit acc x l 0 (digit_not acc x d))
-
-pub numeral_empty : (l : List ℕ) → length l ≡ 0 → 0 ≡ numeral l
-unfolding numeral_from
-numeral_empty [] e = refl
-numeral_empty (x ∷ l) e = absurd (omega arith)
-
-pub numeral_zero : (l : List ℕ) → get_or l 0 0 ≡ 48 → 0 ≡ numeral l
-numeral_zero [] e = absurd (omega arith)
-numeral_zero (x ∷ l) e = sym (after_digit 0 x l 0 (digit_next 0 x 0 (omega (arith, e)) (omega (arith, e)) (omega (arith, e)) (omega arith)))
-
--- the value where it fits
-abbrev fitted : ℕ → ℕ
-fitted v = pick (leb v 4294967295) v 0
-
-numeral_value : (acc : ℕ) (l : List ℕ) → all_ascii_digits l ≡ true → 1 ≤ acc → acc ≤ 4294967295 → numeral_from acc l ≡ fitted (value_from acc l)
-unfolding numeral_from
-numeral_value acc [] d h m = sym (ap (λ (t : Bool). pick t acc 0) (le-leb acc 4294967295 m))
-numeral_value acc (x ∷ l) d h m = let k = tells_all_ascii_digits.parts x l d in ⊎_elim (over k.0) (within k.0 (numeral_value (acc * 10 + (x - 48)) l k.1)) (cases_lt 4294967295 (acc * 10 + (x - 48)))
-  where
-    over : (48 ≤ x) × (x ≤ 57) → 4294967295 < acc * 10 + (x - 48) → numeral_from acc (x ∷ l) ≡ fitted (value_from acc (x ∷ l))
-    over k q =
-        after_digit acc x l 0 (digit_past acc x (acc * 10 + (x - 48)) k.0 k.1 refl q)
-        ∙ sym (ap (λ (t : Bool). pick t (value_from acc (x ∷ l)) 0) (lt-leb (value_from acc (x ∷ l)) 4294967295 (omega (arith, q, value_grows (acc * 10 + (x - 48)) l))))
-
-    within : (48 ≤ x) × (x ≤ 57) → (1 ≤ acc * 10 + (x - 48) → acc * 10 + (x - 48) ≤ 4294967295 → numeral_from (acc * 10 + (x - 48)) l ≡ fitted (value_from (acc * 10 + (x - 48)) l))
-        → acc * 10 + (x - 48) ≤ 4294967295 → numeral_from acc (x ∷ l) ≡ fitted (value_from acc (x ∷ l))
-    within k ih q =
-        after_digit acc x l (acc * 10 + (x - 48)) (digit_next acc x (acc * 10 + (x - 48)) k.0 k.1 refl q)
-        ∙ after_some (acc * 10 + (x - 48)) l (omega (arith, h))
-        ∙ ih (omega (arith, h)) q
-
-numeral_any : (l : List ℕ) → all_ascii_digits l ≡ true → (get_or l 0 0 ≡ 48 → ⊥) → numeral l ≡ fitted (value_from 0 l)
-unfolding numeral_from
-numeral_any [] d n = refl
-numeral_any (x ∷ l) d n =
-    let k = tells_all_ascii_digits.parts x l d in
-    let some : 1 ≤ 0 * 10 + (x - 48) = ⊎_elim (λ q. absurd (n (omega (arith, k.0.0)))) (λ q. omega arith) (cases_lt x 49) in
-    after_digit 0 x l (0 * 10 + (x - 48)) (digit_next 0 x (0 * 10 + (x - 48)) k.0.0 k.0.1 refl (omega (arith, k.0.1)))
-    ∙ after_some (0 * 10 + (x - 48)) l some
-    ∙ numeral_value (0 * 10 + (x - 48)) l k.1 some (omega (arith, k.0.1))
-
-pub digits_are : (l : List ℕ) → list_all is_ascii_digit l ≡ all_ascii_digits l
-digits_are [] = refl
-digits_are (x ∷ l) = ap (λ (t : Bool). is_ascii_digit x && t) (digits_are l)
-
-pub numeral_text : (l : List ℕ) → all_ascii_digits l ≡ true → IsUtf8 l
-numeral_text l d = IsUtf8-from_ascii l (plain l d)
-  where
-    plain : (l : List ℕ) → all_ascii_digits l ≡ true → (i : ℕ) → get_or l i 0 < 128
-    plain [] d i = omega arith
-    plain (x ∷ l) d zero = omega (arith, (tells_all_ascii_digits.parts x l d).0.1)
-    plain (x ∷ l) d (suc i) = plain l (tells_all_ascii_digits.parts x l d).1 i
-
-numeral_none : (l : List ℕ) → all_ascii_digits l ≡ true → (get_or l 0 0 ≡ 48 → ⊥) → ((0 < length l) × (value_from 0 l < 2 ^ 32) → ⊥) → 0 ≡ numeral l
-unfolding numeral_from
-numeral_none [] d n q = refl
-numeral_none (x ∷ l) d n q =
-    sym
-    (numeral_any (x ∷ l) d n
-    ∙ ap (λ (t : Bool). pick t (value_from 0 (x ∷ l)) 0) (lt-leb (value_from 0 (x ∷ l)) 4294967295 (⊎_elim (λ h. absurd (q (omega arith, omega (arith, h)))) (λ h. omega (arith, h)) (cases_lt (value_from 0 (x ∷ l)) 4294967296))))
-
-pub numeral_parsed : (l : List ℕ) → all_ascii_digits l ≡ true → (get_or l 0 0 ≡ 48 → ⊥) → (E : Type 0) (r : Result ℕ E) → ParsesUnsigned 32 10 l r → unwrap_or (result_ok r) 0 ≡ numeral l
-numeral_parsed l d n E r p = go r (parse_digits own 32 l r p d)
-  where
-    go : (r : Result ℕ E) → OkIff r ((0 < length l) × (value_from 0 l < 2 ^ 32)) (value_from 0 l) → unwrap_or (result_ok r) 0 ≡ numeral l
-    go (Ok v) q = q.1 ∙ sym (numeral_any l d n ∙ ap (λ (t : Bool). pick t (value_from 0 l) 0) (le-leb (value_from 0 l) 4294967295 (omega (arith, q.0.1))))
-    go (Err e) q = numeral_none l d n q
+  pub numeral_more : (w : Option ℕ) → w ≡ unless_zero (digit_after acc x) → MatchOption w ((l : List ℕ) → Numbers acc (x ∷ l) None) (λ v. (l : List ℕ) (r : Option ℕ) → Numbers v l r → Numbers acc (x ∷ l) r)
+  numeral_more None e = λ l. sym (by_digit 0 l (sym (none_zero (digit_after acc x) e)))
+  numeral_more (Some zero) e = λ l r q. absurd ((some_number (digit_after acc x) 0 e).1 refl)
+  numeral_more (Some (suc v)) e = λ l r q. q ∙ sym (by_digit (suc v) l (some_number (digit_after acc x) (suc v) e).0)
 
 -- ---- suffix_in
 under_here : (n x : ℕ) (l : List ℕ) → x ≡ 95 → after_underscores (suc n) (x ∷ l) ≡ after_underscores n l
@@ -184,7 +90,7 @@ pub suffix_all : (s l : List ℕ) → s ≡ 95 ∷ 95 ∷ 95 ∷ l → suffix_in
 unfolding after_underscores up_to_zero
 suffix_all s l e = rw e
 
--- ---- suffix_on
+-- ---- suffix_on, turn by turn
 pub on_none : (x : List ℕ) → suffix_on x [] ≡ 0
 unfolding suffix_on after_underscores
 on_none [] = refl
@@ -198,28 +104,23 @@ pub on_other : (a b : ℕ) (x y : List ℕ) → (a ≡ b → ⊥) → suffix_on 
 unfolding suffix_on
 on_other a b x y e = ap (λ (t : Bool). elim t as (λ z. ℕ) [ true ↦ suffix_on x y | false ↦ 0 ]) (ne_eqb a b e)
 
--- the name x at the front of y, and what stands behind it; or it does not stand there
-front : (x l : List ℕ) → suffix_on (up_to_zero x) (up_to_zero (up_to_zero x ++ l)) ≡ suffix_in (up_to_zero l)
-unfolding suffix_on up_to_zero
-front [] l = refl
-front (zero ∷ x) l = refl
-front (suc a ∷ x) l = on_same (suc a) (suc a) (up_to_zero x) (up_to_zero (up_to_zero x ++ l)) refl ∙ front x l
+module _ (x y : List ℕ) (r k : ℕ) (inv : r ≡ suffix_on (name_at x k) (name_at y k)) where
+  pub on_end : length y ≤ k → 0 ≡ r
+  on_end l = sym (inv ∙ ap (suffix_on (name_at x k)) (name_end y k l) ∙ on_none (name_at x k))
 
-no_front : (x y : List ℕ) → ((l : List ℕ) → y ≡ up_to_zero x ++ l → ⊥) → suffix_on (up_to_zero x) (up_to_zero y) ≡ 0
-unfolding suffix_on up_to_zero
-no_front [] y h = absurd (h y refl)
-no_front (zero ∷ x) y h = absurd (h y refl)
-no_front (suc a ∷ x) [] h = refl
-no_front (suc a ∷ x) (zero ∷ y) h = refl
-no_front (suc a ∷ x) (suc b ∷ y) h =
-    elim (ℕ_discrete (suc a) (suc b)) [
-      | yes e ↦ on_same (suc a) (suc b) (up_to_zero x) (up_to_zero y) e ∙ no_front x y (λ l q. h l (ap₂ (λ (z : ℕ) (t : List ℕ). z ∷ t) (sym e) q))
-      | no m ↦ on_other (suc a) (suc b) (up_to_zero x) (up_to_zero y) m
-    ]
+  module _ (a : ℕ) (e : a ≡ get_or x k 0) where
+    pub on_base_lem : (m : ℕ) → a ≡ 0 → m ≡ suffix_in (name_at y k) → m ≡ r
+    unfolding suffix_on
+    on_base_lem m z f = f ∙ sym (inv ∙ ap (λ (l : List ℕ). suffix_on l (name_at y k)) (name_zero x k (sym e ∙ z)))
 
-module _ (x y p : List ℕ) (e : p ≡ up_to_zero x) where
-  pub on_front : (l : List ℕ) → y ≡ p ++ l → suffix_in (up_to_zero l) ≡ suffix_on (up_to_zero x) (up_to_zero y)
-  on_front l f = sym (ap (λ (z : List ℕ). suffix_on (up_to_zero x) (up_to_zero z)) (f ∙ ap (λ (z : List ℕ). z ++ l) e) ∙ front x l)
+    pub on_differ : (a ≡ 0 → ⊥) → (a ≡ get_or y k 0 → ⊥) → 0 ≡ r
+    on_differ n d = sym (inv ∙ ap (λ (l : List ℕ). suffix_on l (name_at y k)) (name_more x k (λ q. n (e ∙ q))) ∙ ⊎_elim
+        (λ l. ap (suffix_on (get_or x k 0 ∷ name_at x (k + 1))) (name_more y k (λ q. omega (arith, q))) ∙ on_other (get_or x k 0) (get_or y k 0) (name_at x (k + 1)) (name_at y (k + 1)) (λ q. d (e ∙ q)))
+        (λ l. ap (suffix_on (get_or x k 0 ∷ name_at x (k + 1))) (name_zero y k (omega arith)) ∙ on_none (get_or x k 0 ∷ name_at x (k + 1)))
+        (cases_lt 0 (get_or y k 0)))
 
-  pub on_else : ((l : List ℕ) → y ≡ p ++ l → ⊥) → 0 ≡ suffix_on (up_to_zero x) (up_to_zero y)
-  on_else h = sym (no_front x y (λ l q. h l (q ∙ ap (λ (z : List ℕ). z ++ l) (sym e))))
+    pub on_turn : (a ≡ 0 → ⊥) → a ≡ get_or y k 0 → r ≡ suffix_on (name_at x (k + 1)) (name_at y (k + 1))
+    on_turn n d =
+        inv
+        ∙ ap₂ suffix_on (name_more x k (λ z. n (e ∙ z))) (name_more y k (λ z. n (d ∙ z)))
+        ∙ on_same (get_or x k 0) (get_or y k 0) (name_at x (k + 1)) (name_at y (k + 1)) (sym e ∙ d)

@@ -188,7 +188,7 @@ module _ (key : ℕ → List ℕ) where
       unfolding placed
       place_other k w z = rw (ne_eqb (class_of key k) 0 z, placed)
 
-      place_is : (k b r old x y : ℕ) (w w₁ w₂ w₃ : List ℕ) → Ready key bucket link n k w → class_of key k ≢ 0 → b ≡ bucket_of key n k → r ≡ class_of key k → old ≡ get_word w (bucket b) → x ≡ pick (eqb r k) old 0 → w₁ ≡ put_word w (link k) x → y ≡ pick (eqb r k) (k + 1) old → w₂ ≡ put_word w₁ (bucket b) y → w₃ ≡ put_word w₂ (class k) r → w₃ ≡ placed key class bucket link n k w
+      pub place_is : (k b r old x y : ℕ) (w w₁ w₂ w₃ : List ℕ) → Ready key bucket link n k w → class_of key k ≢ 0 → b ≡ bucket_of key n k → r ≡ class_of key k → old ≡ get_word w (bucket b) → x ≡ pick (eqb r k) old 0 → w₁ ≡ put_word w (link k) x → y ≡ pick (eqb r k) (k + 1) old → w₂ ≡ put_word w₁ (bucket b) y → w₃ ≡ put_word w₂ (class k) r → w₃ ≡ placed key class bucket link n k w
       unfolding next_of
       place_is k b r old x y w w₁ w₂ w₃ f z eb er eo ex e₁ ey e₂ e₃ =
           let o : old ≡ last_of key n (bucket_of key n k) k = eo ∙ f.heads b (rw eb (bucket_less k (omega (arith, f.below)))) ∙ ap (λ (j : ℕ). last_of key n j k) eb in

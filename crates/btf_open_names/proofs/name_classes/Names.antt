@@ -7,11 +7,10 @@ use native.Mathlib.Omega.{arith}
 use lib.ListN.{length, take, drop, length-drop}
 use borrow.Author.Tests.{eq-eqb, ne_eqb, eqb-true}
 use lib.Dec.{eqb}
-use Rattle.std.specs.Prelude.{not, cond, fold, take_while, position, Option, unwrap_or, ◌==◌}
+use Rattle.std.specs.Prelude.{not, cond, fold, take_while}
 use Rattle.std.proofs.lemmas.List.{take_all}
 use Rattle.std.proofs.lemmas.List.Sums.{take_while-cons}
 use Rattle.spec_type_table.specs.Names.{up_to_zero, name_at}
-use Rattle.spec_type_table.proofs.NameLaws.{str_before}
 use Rattle.btf_open_names.specs.name_classes.Same.{same_list}
 use Rattle.btf_open_names.specs.name_classes.Table.{step_of, hash_from}
 
@@ -23,10 +22,6 @@ module _ (s : List ℕ) (at : ℕ) where
 
   pub name_of_part : up_to_zero (take (length s - at) (drop at s)) ≡ name_at s at
   name_of_part = name_of_rest (take (length s - at) (drop at s)) (take_all (length s - at) (drop at s) (omega (arith, length-drop at s)))
-
-pub name_taken : (l : List ℕ) (o : Option ℕ) (n : ℕ) → o ≡ position (λ x. x == 0) l → n ≡ unwrap_or o (length l) → take n l ≡ up_to_zero l
-unfolding name_at
-name_taken l o n eo en = str_before (record { ptr_sz = 0; union_as_struct = false; big_endian = false; strong_arrays = false; placing = false; types = 0; strs = 0 }) l 0 l o n refl eo en
 
 pub taken_name : (l : List ℕ) → take_while (λ (x : ℕ). not (eqb x 0)) l ≡ up_to_zero l
 unfolding up_to_zero

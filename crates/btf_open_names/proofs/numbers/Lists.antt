@@ -26,10 +26,10 @@ module _ (c t n : ℕ) where
   unfolding one_if
   if_below h = ap (λ (b : Bool). elim b as (λ z. ℕ) [ true ↦ c | false ↦ one_more c ]) (le-ltb n t h)
 
-  if_more : t ≤ n → c < 4294967295 → c + 1 ≡ one_if c t n
+  pub if_more : t ≤ n → c < 4294967295 → c + 1 ≡ one_if c t n
   if_more h l = sym (if_below h ∙ more_is c l)
 
-  if_stuck : t ≤ n → 4294967295 ≤ c → c ≡ one_if c t n
+  pub if_stuck : t ≤ n → 4294967295 ≤ c → c ≡ one_if c t n
   if_stuck h l = sym (if_below h ∙ more_stuck c l)
 
   pub if_at_most : t ≤ n → (r : ℕ) → (c < 4294967295 → r ≡ c + 1) → (4294967295 ≤ c → r ≡ c) → r ≡ one_if c t n

@@ -5,9 +5,9 @@ use mathlib.Core.Bool.{Bool, true, false}
 use mathlib.Core.List.{List, []}
 use native.Mathlib.Omega.{arith}
 use Rattle.spec_bytes.specs.text.Text.{ascii, pfx, whole}
-use Rattle.spec_bytes.specs.text.Placed.{Placed, placed, put_out, put_text}
+use Rattle.spec_bytes.specs.text.Placed.{Placed, put_out, put_text}
 use Rattle.spec_bytes.proofs.text.TextLaws.{put_cut}
-use Rattle.spec_c_dumper.specs.rules.Writer.{Writer, put, given, ◌⨾◌}
+use Rattle.spec_c_dumper.specs.rules.Writer.{Ask, Writer, put, given, ◌⨾◌}
 use Rattle.spec_c_dumper.specs.rules.Types.{Name, is_empty, Member, Enumerator, Btf as Rules}
 use Rattle.spec_c_dumper.specs.rules.Names.{tag_space, ident_space, Naming, resolve_type_name}
 use Rattle.spec_c_dumper.specs.rules.Layout.{end_of}
@@ -19,7 +19,8 @@ use Rattle.spec_type_table.specs.declared.types.TypeTable.{TypeTable}
 use Rattle.spec_type_table.specs.Table.{from, btf_of, work_naming}
 use Rattle.c_dumper_name_versions.proofs.names.Resolve.{put_type_name}
 use Rattle.c_dumper_name_versions.proofs.forwards.Forwards.{keyword_same}
-use Rattle.std.specs.Prelude.{Result, Ok, Err, IsErrAnd, IfOk, ⊤}
+use Rattle.std.specs.Result.{result_unwrap_or}
+use Rattle.std.specs.Prelude.{Result, Ok, Err, IsErrAnd, ⊤}
 use Rattle.spec_bytes.specs.declared.refusal.Refusal.{Refusal}
 use Rattle.spec_bytes.specs.Refusals.{refusal_number}
 use Rattle.btf_layout.specs.size.Answers.{ask_of}
@@ -64,11 +65,10 @@ module _ (b : TypeTable) (s : List ℕ) (id : ℕ) (is_struct : Bool) (name a : 
 
 -- ---- after a member
 
--- `?` hands on what stopped the writing, in an answer that has more beside the place
-pub handed : {A U : Type 0} (at_of : A → ℕ) (P : A → Type 0) (r : Result A Refusal) (c : Refusal) (t : List ℕ) (u : U) (o : Wrote U ⊤)
-    → IsErrAnd r (λ x. x ≡ c) → out_of (Err c) t u ≡ o → (out_of (placed at_of r) t u ≡ o) × IfOk r P
-handed at_of P (Ok x) c t u o i e = absurd i
-handed at_of P (Err d) c t u o i e = (ap (λ (k : Refusal). out_of (Err k) t u) i ∙ e, tt)
+-- `?` hands on what stopped the writing
+pub handed : {U : Type 0} (r : Placed) (c : Refusal) (t : List ℕ) (u : U) (o : Wrote U ⊤) → IsErrAnd r (λ x. x ≡ c) → out_of (Err c) t u ≡ o → out_of r t u ≡ o
+handed (Ok x) c t u o i e = absurd i
+handed (Err d) c t u o i e = ap (λ (k : Refusal). out_of (Err k) t u) i ∙ e
 
 module _ (B : Rules) (id k : ℕ) (m : Member) (t : List ℕ) (at : Placed) (w : List ℕ) (p : Placed) (t₁ : List ℕ) where
   -- the size of a bit field, and what is written after it
@@ -98,9 +98,11 @@ tail_no B id k m t at w p t₁ c ea e₁ =
     tail_put B id k m t at w (Ok p) t₁ (Err c) t₁ e₁
     (put_refused _ t₁ (Ok p) (λ end. emit_decl_tags B id k ⨾ put (ascii ";")) w (refusal_number c) (end_of B m) (Err c) t₁ w (sym ea) (stop_only _ t₁ (Ok p) (refusal_number c) w (Err c) t₁ (put_cut t₁ p c)))
 
-pub tail_end : (B : Rules) (m : Member) (n : ℕ) → ask_of (Ok n) ≡ end_of B m → n ≡ end_from (end_of B m)
+-- where the next member may begin
+pub end_offset : (e : Result ℕ Refusal) (a : Ask ℕ) (n : ℕ) → ask_of e ≡ a → n ≡ result_unwrap_or e 0 → n ≡ end_from a
 unfolding ask_of end_from
-tail_end B m n ea = ap end_from ea
+end_offset (Ok x) a n h e = e ∙ ap end_from h
+end_offset (Err c) a n h e = e ∙ ap end_from h
 
 -- ---- a composite's end
 last_line : (f : ℕ → Member) (n v : ℕ) → v ≡ n → line_end v ≡ last_newline (from f 0 n)

@@ -25,7 +25,7 @@ use Rattle.c_dumper_bodies.proofs.chain.Linked.{link_leads, link_ends, stays_on,
 
 module _ (b : TypeTable) (s w : List ℕ) (start : ℕ) where
   -- ---- path_at
-  path_more : (i id : ℕ) (t : Record) (x : ℕ) → id ≡ path_at b s w start i → t ≡ record_by_id b s w id → x ≡ next_of b s t → x ≡ path_at b s w start (i + 1)
+  pub path_more : (i id : ℕ) (t : Record) (x : ℕ) → id ≡ path_at b s w start i → t ≡ record_by_id b s w id → x ≡ next_of b s t → x ≡ path_at b s w start (i + 1)
   unfolding path_at
   path_more i id t x e et ex = rw add-one (ex ∙ ap (next_of b s) (et ∙ ap (record_by_id b s w) e))
 

@@ -1,11 +1,11 @@
 // The parts of a composite's body and the words of a base that call no declaration.
-ghost use Rattle.std.specs.Prelude.{◌≡◌, eqb, Ok, IfOk};
-ghost use Rattle.spec_bytes.specs.text.Placed.{placed};
+ghost use Rattle.std.specs.Prelude.{◌≡◌, eqb, Ok};
 ghost use Rattle.spec_c_dumper.specs.rules.Writer.{put};
 ghost use Rattle.spec_c_dumper.specs.rules.Names.{ident_space, resolve_type_name};
 ghost use Rattle.spec_c_dumper.specs.rules.Layout.{end_of};
 ghost use Rattle.spec_c_dumper.specs.rules.Decl.{composite_head, composite_end};
 ghost use Rattle.spec_c_dumper.specs.rules.Place.{out_of, put_said};
+ghost use Rattle.btf_layout.specs.size.Answers.{ask_of};
 ghost use Rattle.spec_type_table.specs.Names.{str_at};
 ghost use Rattle.spec_type_table.specs.Records.{kind_of, flag_of};
 ghost use Rattle.spec_type_table.specs.Table.{rule_member, members_of, record_name, btf_of, work_naming};
@@ -30,6 +30,16 @@ use spec_type_table::BtfMember;
 #[derive(Clone, Copy)]
 pub struct Spot {
     pub at: usize,
+    pub offset: u32,
+}
+
+// Where a member ends, or why that is not known.
+type End = Result<u32, Refusal>;
+
+// What stands after a member: the place in the text, and the bit where the next may begin, 0 where the member has no end.
+#[derive(Clone, Copy)]
+pub struct MemberEnd {
+    pub at: Result<usize, Refusal>,
     pub offset: u32,
 }
 
@@ -93,7 +103,7 @@ pub fn emit_composite_head(
     put_bytes(text, c, b" {")
 }
 
-// The size of a bit field, the member's tags and the semicolon.
+// The size of a bit field, the member's tags and the semicolon; where the next may begin is told whatever the text came to.
 pub fn emit_member_end(
     b: &Table,
     work: &[u8],
@@ -102,18 +112,39 @@ pub fn emit_member_end(
     id: u32,
     k: u32,
     m: BtfMember,
-) -> Result<Spot, Refusal>
-    ensures { (out_of (placed (λ s. s.at) result) text.new work.now
+) -> MemberEnd
+    ensures { (out_of result.at text.new work.now
         ≡ put_said text.old (Ok at) (member_tail (btf_of b.now.head b.now.section.now work.now) id k
         (rule_member b.now.head b.now.section.now m)) work.now)
-        × IfOk result (λ s. s.offset
+        × (result.offset
         ≡ end_from (end_of (btf_of b.now.head b.now.section.now work.now) (rule_member b.now.head b.now.section.now m))) }
 {
+    let end = member_end(b, work, m);
+    MemberEnd {
+        at: put_member_tail(b, work, text, at, id, k, m, end),
+        offset: end.unwrap_or(0),
+    }
+}
+
+fn put_member_tail(
+    b: &Table,
+    work: &[u8],
+    text: &mut [u8],
+    at: usize,
+    id: u32,
+    k: u32,
+    m: BtfMember,
+    end: End,
+) -> Result<usize, Refusal>
+    requires { ask_of end ≡ end_of (btf_of b.now.head b.now.section.now work.now) (rule_member b.now.head b.now.section.now m) }
+    ensures { out_of result text.new work.now
+        ≡ put_said text.old (Ok at) (member_tail (btf_of b.now.head b.now.section.now work.now) id k
+        (rule_member b.now.head b.now.section.now m)) work.now }
+{
     let a = put_bit_size(text, at, m.bit_size)?;
-    let offset = member_end(b, work, m)?;
+    let _offset = end?;
     let c = emit_decl_tags(b, work, text, a, id, Some(k))?;
-    let at = put_byte(text, c, b';')?;
-    Ok(Spot { at, offset })
+    put_byte(text, c, b';')
 }
 
 // The closing bracket, on a line of its own after members, and what is said of the whole.

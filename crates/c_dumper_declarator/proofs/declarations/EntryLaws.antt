@@ -194,7 +194,7 @@ module _ (b : TypeTable) (s : List ℕ) where
 
     -- an entry of no other kind that leads on is a type tag
     module _ (l : only_links (chain_at b s w id c.n) ≡ true) (n₁ : k ≡ Ptr → ⊥) (n₂ : k ≡ Array → ⊥) (n₃ : k ≡ Volatile → ⊥) (n₄ : k ≡ Const → ⊥) (n₅ : k ≡ Restrict → ⊥) (n₆ : k ≡ FuncProto → ⊥) where
-      is_tag : kind_named (kind_of t.info) ≡ TypeTag
+      pub is_tag : kind_named (kind_of t.info) ≡ TypeTag
       is_tag =
           sym ek
           ∙ links_tag b s w x t et below_top

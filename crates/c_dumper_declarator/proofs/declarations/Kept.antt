@@ -5,7 +5,7 @@ use mathlib.Core.Bool.{Bool, true, false}
 use mathlib.Core.List.{List, ◌∷◌}
 use native.Mathlib.Omega.{arith}
 use lib.Dec.{ltb, leb, eqb}
-use Rattle.spec_bytes.specs.text.Placed.{stopped, Placed, placed}
+use Rattle.spec_bytes.specs.text.Placed.{Placed, placed}
 use Rattle.spec_c_dumper.specs.rules.Writer.{Writer, ◌⨾◌}
 use Rattle.spec_c_dumper.specs.rules.Types.{Name, Member, Btf as Rules}
 use Rattle.spec_c_dumper.specs.rules.Names.{Space, Resolved}

@@ -22,7 +22,7 @@ use Rattle.btf_layout.proofs.asked.Stays.{steady_body}
 use Rattle.btf_layout.proofs.asked.Given.{given_found, given_refused}
 use Rattle.c_dumper_padding.specs.placing.Steps.{body_in}
 use Rattle.c_dumper_padding.specs.padding.Asking.{pad_said}
-use Rattle.spec_c_dumper.specs.rules.Place.{out_of, put_said}
+use Rattle.spec_c_dumper.specs.rules.Place.{Wrote, out_of, put_said}
 use Rattle.spec_c_dumper.proofs.rules.Writing.{put_only, put_nothing, put_then_kept, said_ended}
 use Rattle.spec_c_dumper.proofs.rules.Keeps.{Kept, kept_as, keeps_put, keeps_then, keeps_composite_head}
 use Rattle.spec_type_table.specs.declared.types.TypeTable.{TypeTable}
@@ -30,7 +30,7 @@ use Rattle.spec_type_table.specs.declared.types.BtfType.{BtfType as Record}
 use Rattle.spec_type_table.specs.Names.{str_at}
 use Rattle.spec_type_table.specs.Records.{section_word, param_at, member_of}
 use Rattle.spec_type_table.specs.Table.{from, param_of, rule_member, btf_of}
-use Rattle.std.specs.Prelude.{None, Result, Ok, Err, IsErrAnd, IfOk}
+use Rattle.std.specs.Prelude.{None, Result, Ok, Err, IsErrAnd, ⊤}
 use Rattle.spec_bytes.proofs.text.TextLaws.{put_past, put_ended, put_cut}
 use Rattle.spec_bytes.specs.declared.refusal.Refusal.{Refusal}
 use Rattle.spec_bytes.specs.declared.refusal.Refusal.TheVariants.{TooDeep}
@@ -52,6 +52,10 @@ use Rattle.c_dumper_name_versions.specs.names.Spelling.{name_text}
 use Rattle.c_dumper_name_versions.proofs.names.Spellings.{bare_text}
 use Rattle.c_dumper_bodies.specs.declared.bodies.bodies.Spot.{Spot}
 use Rattle.c_dumper_bodies.proofs.enumerators.Values.{from_more, from_none}
+
+-- a place by what it is
+pub placed_as : (p q : Placed) (t w : List ℕ) (o : Wrote (List ℕ) ⊤) → p ≡ q → out_of p t w ≡ o → out_of q t w ≡ o
+placed_as p q t w o e h = ap (λ (x : Placed). out_of x t w) (sym e) ∙ h
 
 no_more : (f : ℕ → Param) (k n : ℕ) → k < n → no_params (from f (k + 1) (n - (k + 1))) ≡ leb n (k + 1)
 unfolding from
@@ -170,9 +174,9 @@ module _ (b : TypeTable) (s : List ℕ) where
         (said_as t₁ p _ _ w r t' w' (ap (λ (l : List Param). emit_params (λ id name. emit_type_decl_once (Q b s (T b s w)) (N b s) (T b s w) below id name lvl) true l ⨾ put (ascii ")")) (ap (from f 0) z ∙ e)) o₂)
 
   -- ---- emit_member: where the next member starts
-  pub member_ends : (B : Rules) (t : Record) (k : ℕ) (m : BtfMember) (r : Result Spot Refusal) → m ≡ member_of b s t k
-      → IfOk r (λ x. x.offset ≡ end_from (end_of B (rule_member b s m))) → IfOk r (λ x. x.offset ≡ end_from (end_of B (rule_member b s (member_of b s t k))))
-  member_ends B t k m r em o = subst (λ y. IfOk r (λ x. x.offset ≡ end_from (end_of B (rule_member b s y)))) em o
+  pub member_ends : (B : Rules) (t : Record) (k : ℕ) (m : BtfMember) (o : ℕ) → m ≡ member_of b s t k
+      → o ≡ end_from (end_of B (rule_member b s m)) → o ≡ end_from (end_of B (rule_member b s (member_of b s t k)))
+  member_ends B t k m o em e = e ∙ ap (λ (y : BtfMember). end_from (end_of B (rule_member b s y))) em
 
   -- what it writes
   module _ (below id lvl : ℕ) (packed : Bool) (k : ℕ) (txt : List ℕ) (spot : Spot) (w : List ℕ) where

@@ -113,5 +113,10 @@ fn emit_member(
     let c = put_byte(text, a, b'\n')?;
     let e = put_tabs(text, c, lvl)?;
     let f = emit_type_decl(b, work, text, e, d, below)?;
-    emit_member_end(b, work, text, f, body.x.id, k, m)
+    let end = emit_member_end(b, work, text, f, body.x.id, k, m);
+    let at = end.at?;
+    Ok(Spot {
+        at,
+        offset: end.offset,
+    })
 }

@@ -79,12 +79,14 @@ done_yes done e = refl
 
 pub record Known (c : Option ℕ) (left : ℕ) (o : Order) (w : List ℕ) (x : ℕ) : Type 0 where
   pub deep : left ≡ 0 → ⊥
+  pub allowed : allows (limit_of c) o.made ≡ true
   pub state : mark_of (get_field w x 1) ≡ done
 
 pub known_yes : (c : Option ℕ) (left : ℕ) (o : Order) (w : List ℕ) (x : ℕ) → is_known c left o w x ≡ true → Known c left o w x
 unfolding is_known
 known_yes c left o w x e = record {
   deep = eqb-false left 0 (not-true (eqb left 0) (and_parts p q e).0);
+  allowed = (and_parts (allows (limit_of c) o.made) (is_done (mark_of (get_field w x 1))) (and_parts p q e).1).0;
   state = done_yes (mark_of (get_field w x 1)) (and_parts (allows (limit_of c) o.made) (is_done (mark_of (get_field w x 1))) (and_parts p q e).1).1;
 }
   where

@@ -49,7 +49,7 @@ pub follows : (o : Order) (w l : List ℕ) (k : MarksAndLeaders → Bool → ℕ
 unfolding kept_out then_bind
 follows o w l k x e y h = h ∙ ap (λ (r : Told MarksAndLeaders). then_bind r k) e
 
-flagged : (o : Order) (w l : List ℕ) (s : Bool) (r : Order) → r ≡ strong_of o s → kept_out (Ok r) w l ≡ told (kept_of o w l) s o.made
+pub flagged : (o : Order) (w l : List ℕ) (s : Bool) (r : Order) → r ≡ strong_of o s → kept_out (Ok r) w l ≡ told (kept_of o w l) s o.made
 unfolding kept_out
 flagged o w l s r e = ap (λ (x : Order). kept_out (Ok x) w l) e
 

@@ -33,8 +33,7 @@ use Rattle.spec_session.proofs.emission.Laws as plainly
 use Rattle.spec_c_dumper.specs.origins.Causes.{Entry, entry, Traced, with_entries, up_to, line, cause_at}
 use Rattle.c_dumper_dependency_order.specs.leaders.Leaders.{leader_in, entry_in}
 use Rattle.c_dumper_emit.specs.declared.entries.Pen.{Pen}
-use Rattle.c_dumper_emit.specs.declared.entries.Origin.{Origin}
-use Rattle.c_dumper_emit.specs.entries.Traced.{Lent, cause_code, entry_at, entries_of, entry_of, entry_put, traced_out, note_n, note_if_n, line_n, shown_of, emit_n, state_n}
+use Rattle.c_dumper_emit.specs.entries.Traced.{Lent, entry_at, entries_of, entry_put, traced_out, note_n, note_if_n, line_n, shown_of, emit_n, state_n}
 use Rattle.c_dumper_emit.proofs.entries.Frame.{Stays, on, off, stays_then, table_emit}
 
 abbrev pub traced_at : ℕ → Pen → List ℕ → List ℕ → List ℕ → Traced Slices
@@ -90,6 +89,10 @@ unfolding entry_put
 put_is l k id cause leader l₁ l₂ l₃ e₁ e₂ e₃ = rw (e₃, e₂, e₁)
 
 -- ---- which entry
+-- a cause by its number
+pub entry_by : (x k n d : ℕ) (e : Entry) → k ≡ n → entry x n d ≡ e → entry x k d ≡ e
+entry_by x k n d e h q = ap (λ (m : ℕ). entry x m d) h ∙ q
+
 pub cause_own : (req turn : ℕ) (leaders : List ℕ) (x : ℕ) → x ≡ req → entry x 0 x ≡ entry_in req turn leaders x
 unfolding entry_in
 cause_own req turn leaders x e = rw (eq-eqb x req e, entry_in)
@@ -101,6 +104,9 @@ cause_leader req turn leaders x d n e = ap (entry x 1) e ∙ rw (ne_eqb x req n,
 pub cause_top : (w : ℕ) (top : Entry) (x cont : ℕ) (e : Entry) → cont ≡ 0 → e ≡ top → e ≡ cause_at w top x cont
 unfolding cause_at
 cause_top w top x cont e z q = q ∙ ap (cause_at w top x) (sym z)
+
+pub cause_by : (w k : ℕ) (top : Entry) (x cont : ℕ) (e : Entry) → k ≡ w → e ≡ cause_at k top x cont → e ≡ cause_at w top x cont
+cause_by w k top x cont e h q = q ∙ ap (λ (n : ℕ). cause_at n top x cont) h
 
 pub cause_within : (w : ℕ) (top : Entry) (x cont : ℕ) → (cont ≡ 0 → ⊥) → entry x w cont ≡ cause_at w top x cont
 unfolding cause_at
@@ -263,9 +269,6 @@ module _ (n : ℕ) (p : Pen) (t w l : List ℕ) where
       goes n (record { at = p.at; count = p.count + 1 }) t w l'
       ∙ ap (λ (es : List Entry). wrote (record { mach = slices n p.at t w; entries = es })) (ap (entries_of (p.count + 1)) el ∙ entries_more p.count l e h)
       ∙ sym (run n t w l p (λ m. note_n (length l / 12) e m) ∙ rw (entries_length p.count l, lt-ltb p.count (length l / 12) h, note_n))
-
-  pub note_by : (o : Origin) (v room : ℕ) (x : Out (Traced Slices) (Unit {0})) → v ≡ cause_code o.cause → x ≡ obind Here (λ m. note_n room (entry o.id v o.leader) m) → x ≡ obind Here (λ m. note_n room (entry_of o) m)
-  note_by o v room x e h = h ∙ ap (λ (k : ℕ). obind Here (λ m. note_n room (entry o.id k o.leader) m)) e
 
   pub noteif_yes : (f : Bool) (room : ℕ) (e : Entry) (x : Out (Traced Slices) (Unit {0})) → f ≡ true → x ≡ obind Here (λ m. note_n room e m) → x ≡ obind Here (λ m. note_if_n f room e m)
   unfolding note_if_n

@@ -37,7 +37,7 @@ cause_code ForwardLine = 2
 cause_code EarlyTypedef = 3
 
 abbrev pub entry_of : Origin → Entry
-entry_of e = entry e.id (cause_code e.cause) e.leader
+entry_of e = entry e.id e.cause e.leader
 
 unfoldable pub entry_put : List ℕ → ℕ → Entry → List ℕ
 entry_put l k e = put_word (put_word (put_word l (k * 3) e.id) (k * 3 + 1) e.cause) (k * 3 + 2) e.leader

@@ -66,7 +66,7 @@ module _ (n a : ℕ) where
 
 -- ---- same_unit
 module _ (size start width : ℕ) where
-  unit_none : size * 8 ≡ 0 → true ≡ same_unit (8 * size) start width
+  pub unit_none : size * 8 ≡ 0 → true ≡ same_unit (8 * size) start width
   unfolding same_unit
   unit_none z =
       let e : 8 * size ≡ 0 = omega arith in

@@ -16,7 +16,7 @@ use Rattle.c_dumper_padding.specs.units.Units.{unit_of, pad_is}
 use Rattle.c_dumper_padding.specs.pads.Texts.{pad_line}
 
 -- ---- put_pad
-line_is : (lvl : ℕ) (p : Code) → 10 ∷ [] ++ pfx lvl ++ unit_word (unit_of p.unit) ++ ascii ": " ++ decimal p.width ++ 59 ∷ [] ≡ pad_line lvl (pad_is p)
+pub line_is : (lvl : ℕ) (p : Code) → 10 ∷ [] ++ pfx lvl ++ unit_word (unit_of p.unit) ++ ascii ": " ++ decimal p.width ++ 59 ∷ [] ≡ pad_line lvl (pad_is p)
 unfolding pad_line pad_is
 line_is lvl p = refl
 

@@ -1,7 +1,7 @@
 -- A law for each return. Assumes nothing.
 use Prim.Native.Nat.{ℕ, zero, suc, ◌+◌, ◌/◌, ◌<◌, ◌≤◌}
 use native.Mathlib.Omega.{arith}
-use mathlib.Core.Path.{◌≡◌, refl, sym, ◌∙◌, ap}
+use mathlib.Core.Path.{◌≡◌, refl, sym, ◌∙◌, ap, subst}
 use mathlib.Core.Bool.{Bool, true, false, not, ◌&&◌, ◌||◌, true≢false}
 use mathlib.Core.List.{List, [], ◌∷◌, ◌++◌}
 use lib.ListN.{length, get_or, drop}
@@ -19,8 +19,10 @@ use Rattle.spec_opening.specs.Opened.{Examined, refused_by, sound_with, examine_
 use Rattle.spec_opening.proofs.Order.{NoneHolds, first_none}
 use Rattle.spec_session.specs.session.Answers.{Refused, alone, answer_of}
 use Rattle.spec_session.specs.declared.session.Session.{Session}
+use Rattle.btf_open_causes.specs.references.Followed.{type_count}
+use Rattle.session_cut_marks.specs.mentioned.Names.{zero_bases, base_of, bases_to}
 use Rattle.session_cut_marks.specs.marks.Marks.{all_zero, ids_of}
-use Rattle.session_cut.specs.writer.Bytes.{wrote_of, kept_written}
+use Rattle.session_cut.specs.writer.Bytes.{types_size, all_bytes, Wrote, wrote_of, fitting_written, kept_written}
 use Rattle.spec_cut.specs.section.Section.{any_past, cut_number, cut_output}
 use Rattle.session_cut.proofs.written.Claims.{twenty_three, cut_length, kept_written_lem}
 use Rattle.session_cut.specs.call.Calls.{cut_of, passes, is_open_on, section_for, cut_by, cut_call}
@@ -33,6 +35,11 @@ use Rattle.session_cut_marks.proofs.marks.Laws.{chunk_word}
 use Rattle.std.proofs.Common.{Option, Some, None, Result, Ok, Err}
 use Rattle.spec_bytes.specs.declared.refusal.Refusal.{Refusal}
 use Rattle.spec_bytes.specs.declared.refusal.Refusal.TheVariants.{OutputShort}
+
+-- how many bytes were written
+abbrev length_of : Wrote → ℕ
+length_of (wrote_of None o) = 0
+length_of (wrote_of (Some n) o) = n
 
 -- the refusal of the writer
 answered_to : (w : Option ℕ) (out : List ℕ) → cut_of (alone (ok_or w OutputShort)) out ≡ answered (wrote_of w out)
@@ -132,6 +139,42 @@ module _ (p : ℕ) (s : List ℕ) where
       fit_same = ap (λ (k : Result Counts Refusal). examine_out k start) (sym z) ∙ em ∙ indexed_yes fit_passes
 
 -- ---- write_cut
+
+-- a section that was written is no longer than a section may be
+module _ (b : TypeTable) (s start ids out : List ℕ) where
+  abbrev S : ℕ
+  S = base_of b s start ids (type_count b)
+
+  abbrev T : ℕ
+  T = types_size b s start ids (type_count b)
+
+  pub kept_small : (n : ℕ) (o : List ℕ) → wrote_of (Some n) o ≡ kept_written b s start ids out → n ≤ 16777216
+  unfolding kept_written fitting_written
+  kept_small n o e = subst (λ (k : ℕ). k ≤ 16777216) (sym (ap length_of e)) (go (ltb 16777216 (length s)) (ltb 16777216 S) (ltb 16777216 T) (ltb 16777216 (24 + T + S)) refl (ltb (length out) (24 + T + S)))
+    where
+      go : (c d f g : Bool) → ltb 16777216 (24 + T + S) ≡ g → (k : Bool)
+          → length_of (elim c as (λ z. Wrote) [
+            | true ↦ wrote_of None out
+            | false ↦ elim d as (λ z. Wrote) [
+              | true ↦ wrote_of None out
+              | false ↦ elim f as (λ z. Wrote) [
+                | true ↦ wrote_of None out
+                | false ↦ elim g as (λ z. Wrote) [
+                  | true ↦ wrote_of None out
+                  | false ↦ elim k as (λ z. Wrote) [
+                    | true ↦ wrote_of None out
+                    | false ↦ wrote_of (Some (24 + T + S)) (all_bytes b s start ids (bases_to b s start ids zero_bases (type_count b)) T S ++ drop (24 + T + S) out)
+                  ]
+                ]
+              ]
+            ]
+          ]) ≤ 16777216
+      go true d f g e k = omega arith
+      go false true f g e k = omega arith
+      go false false true g e k = omega arith
+      go false false false true e k = omega arith
+      go false false false false e true = omega arith
+      go false false false false e false = omega (arith, ltb-false 16777216 (24 + T + S) e)
 
 pub kept_of : (b : TypeTable) (s start given ids ids' out out' : List ℕ) (r : Option ℕ) → ids ≡ all_zero → ids' ≡ ids_of b s start given ids → wrote_of r out' ≡ kept_written b s start ids' out
     → wrote_of r out' ≡ kept_written b s start (ids_of b s start given all_zero) out

@@ -115,7 +115,7 @@ module _ (b : TypeTable) (s t : List ℕ) where
       ∙ ap (λ (u : ℕ). probe b s t (str_at b s off) (u % 262144) 262144) e
 
   module _ (off i v : ℕ) (e : i ≡ slot_of b s t off) (g : v ≡ get_or t i 0) where
-    found_is : v ≡ found b s t off
+    pub found_is : v ≡ found b s t off
     unfolding found
     found_is = g ∙ ap (λ (j : ℕ). get_or t j 0) e
 

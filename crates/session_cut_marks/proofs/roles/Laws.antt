@@ -1,12 +1,12 @@
 -- A law for each return of the code, and how large the digits and the counts are. Assumes nothing.
-use Prim.Native.Nat.{ℕ, zero, suc, ◌+◌, ◌-◌, ◌*◌, ◌/◌, ◌%◌, ◌≤◌}
+use Prim.Native.Nat.{ℕ, zero, suc, ◌+◌, ◌-◌, ◌*◌, ◌/◌, ◌%◌, ◌<◌, ◌≤◌}
 use native.Mathlib.Omega.{arith}
 use native.Mathlib.Nat.{mul-le-mul_right}
 use mathlib.Core.Path.{◌≡◌, refl, sym, ◌∙◌, ap}
 use mathlib.Core.List.{List, [], ◌∷◌}
 use mathlib.Core.Logic.{⊎_elim}
 use lib.ListN.{length, get_or}
-use borrow.Author.Tests.{eq-eqb, ne_eqb, le-ltb}
+use borrow.Author.Tests.{eq-eqb, ne_eqb, lt-ltb, le-ltb}
 use Rattle.std.proofs.lemmas.Bool.{cases_lt}
 use Rattle.std.proofs.lemmas.List.{get_or_past}
 use Rattle.spec_bytes.specs.text.Text.{ascii}
@@ -37,18 +37,24 @@ unfolding entry_words
 entry_few k = digits_few (ascii "00003320000002030003") (omega arith, (omega arith, (omega arith, (omega arith, (omega arith, (omega arith, (omega arith, (omega arith, (omega arith, (omega arith, (omega arith, (omega arith, (omega arith, (omega arith, (omega arith, (omega arith, (omega arith, (omega arith, (omega arith, (omega arith, tt)))))))))))))))))))) k
 
 -- ---- columns
-module _ (per j : ℕ) (l : 3 ≤ j) where
-  column_flat : per ≡ 0 → j ≡ column per j
+module _ (per j : ℕ) where
+  pub column_low : j < 3 → j ≡ column per j
   unfolding column
-  column_flat z = rw (le-ltb j 3 l, column, eq-eqb per 0 z)
+  column_low h = rw (lt-ltb j 3 h, column)
 
-  column_two : per ≡ 2 → 3 + (j - 3) % 2 ≡ column per j
-  unfolding column
-  column_two z = rw (le-ltb j 3 l, column, ne_eqb per 0 (λ u. omega (arith, z, u)), eq-eqb per 2 z)
+  module _ (l : 3 ≤ j) where
+    pub column_flat : per ≡ 0 → j ≡ column per j
+    unfolding column
+    column_flat z = rw (le-ltb j 3 l, column, eq-eqb per 0 z)
 
-  column_three : per ≡ 3 → 3 + (j - 3) % 3 ≡ column per j
-  unfolding column
-  column_three z = rw (le-ltb j 3 l, column, ne_eqb per 0 (λ u. omega (arith, z, u)), ne_eqb per 2 (λ u. omega (arith, z, u)))
+    module _ (n : per ≡ 0 → ⊥) where
+      pub column_two : per ≡ 2 → 3 + (j - 3) % 2 ≡ column per j
+      unfolding column
+      column_two z = rw (le-ltb j 3 l, column, ne_eqb per 0 n, eq-eqb per 2 z)
+
+      pub column_three : (per ≡ 2 → ⊥) → 3 + (j - 3) % 3 ≡ column per j
+      unfolding column
+      column_three z = rw (le-ltb j 3 l, column, ne_eqb per 0 n, ne_eqb per 2 z)
 
 -- ---- words by kind
 module _ (k n : ℕ) where
@@ -62,14 +68,14 @@ module _ (k n : ℕ) where
   two h =
       let l : 3 ≤ 3 + n = omega arith in
       let y : n ≡ 3 + n - 3 = omega arith in
-      ap (λ (c : ℕ). role_of (digit_at roles (k * 6 + c))) (ap (λ (u : ℕ). 3 + u % 2) y ∙ column_two (entry_words k) (3 + n) l h)
+      ap (λ (c : ℕ). role_of (digit_at roles (k * 6 + c))) (ap (λ (u : ℕ). 3 + u % 2) y ∙ column_two (entry_words k) (3 + n) l (λ u. omega (arith, h, u)) h)
 
   three : entry_words k ≡ 3 → role_of (digit_at roles (k * 6 + (3 + n % 3))) ≡ role_of (role k (3 + n))
   unfolding role
   three h =
       let l : 3 ≤ 3 + n = omega arith in
       let y : n ≡ 3 + n - 3 = omega arith in
-      ap (λ (c : ℕ). role_of (digit_at roles (k * 6 + c))) (ap (λ (u : ℕ). 3 + u % 3) y ∙ column_three (entry_words k) (3 + n) l h)
+      ap (λ (c : ℕ). role_of (digit_at roles (k * 6 + c))) (ap (λ (u : ℕ). 3 + u % 3) y ∙ column_three (entry_words k) (3 + n) l (λ u. omega (arith, h, u)) (λ u. omega (arith, h, u)))
 
 -- a kind y, and word c of its entries
 module _ (y c k n : ℕ) (e : k ≡ y) where

@@ -79,7 +79,7 @@ module _ (b : TypeTable) (s start : List ℕ) where
       unfolding tag_on some_number
       tag_of_tag z = rw (eq-eqb (kind_at b start x) 17 (sym kind_of ∙ is), eq-eqb (kind_at b start (section_word b s (place_of b start x + 8))) 17 (sym kind_target ∙ z))
 
-      tag_of_type : (k ≡ 17 → ⊥) → t ≡ tag_on b s start x
+      pub tag_of_type : (k ≡ 17 → ⊥) → t ≡ tag_on b s start x
       unfolding tag_on
       tag_of_type z = target ∙ rw (eq-eqb (kind_at b start x) 17 (sym kind_of ∙ is), ne_eqb (kind_at b start (section_word b s (place_of b start x + 8))) 17 (λ u. z (kind_target ∙ u)))
 
@@ -113,7 +113,7 @@ module _ (b : TypeTable) (s start : List ℕ) where
       unfolding tagged_at
       tag_inside z l = rw (ne_eqb (tag_on b s start x) 0 (λ u. nz (q ∙ u)), tagged_at, ne_eqb (get_or m (tag_on b s start x) 0) 0 (λ u. z (found ∙ u)), lt-ltb x (length m) l)
 
-      tag_past : (v ≡ 0 → ⊥) → length m ≤ x → m ≡ tagged_at b s start m x
+      pub tag_past : (v ≡ 0 → ⊥) → length m ≤ x → m ≡ tagged_at b s start m x
       unfolding tagged_at
       tag_past z l = rw (ne_eqb (tag_on b s start x) 0 (λ u. nz (q ∙ u)), tagged_at, ne_eqb (get_or m (tag_on b s start x) 0) 0 (λ u. z (found ∙ u)), le-ltb x (length m) l)
 

@@ -35,7 +35,7 @@ module _ (s : List ℕ) (i : ℕ) (h : i < length s) where
   unfolding tokens_at
   here = ap (tk s []) (drop-cons s i 0 h)
 
-  skip_turn : (at : ℕ) → get_or s i 0 ≡ 32 → tokens_at s i ≡ tokens_at s at → tokens_at s (i + 1) ≡ tokens_at s at
+  pub skip_turn : (at : ℕ) → get_or s i 0 ≡ 32 → tokens_at s i ≡ tokens_at s at → tokens_at s (i + 1) ≡ tokens_at s at
   unfolding tokens ended lone in_run is_word_byte is_letter is_digit tokens_at
   skip_turn at e inv =
       ap (λ (n : ℕ). tokens_at s n) (add-one i)
@@ -43,7 +43,7 @@ module _ (s : List ℕ) (i : ℕ) (h : i < length s) where
       ∙ inv
 
   -- a byte that stands by itself
-  mark_here : in_run (get_or s i 0) ≡ false → (get_or s i 0 ≡ 32 → ⊥) → tokens_at s i ≡ mark (get_or s i 0) ∷ tokens_at s (i + 1)
+  pub mark_here : in_run (get_or s i 0) ≡ false → (get_or s i 0 ≡ 32 → ⊥) → tokens_at s i ≡ mark (get_or s i 0) ∷ tokens_at s (i + 1)
   unfolding tokens ended lone tokens_at
   mark_here e n =
       here
@@ -147,14 +147,14 @@ run_long : (s : List ℕ) (at e : ℕ) → at < e → e ≤ length s → length 
 run_long s at e h k = omega (arith, length-take (e - at) (drop at s), length-drop at s)
 
 module _ (s : List ℕ) (at e : ℕ) (h : at < e) (k : e ≤ length s) (inv : Running s at e) where
-  run_ends : length s ≤ e → Ran s at e
+  pub run_ends : length s ≤ e → Ran s at e
   unfolding tokens ended tokens_at
   run_ends n =
       let d : drop e s ≡ [] = drop_of_length-le s n in
       let q : tk s (run_bytes s at e) (drop e s) ≡ ended (places (length s)) (run_bytes s at e) (length (drop e s)) (tokens_at s e) = rw d in
       record { some = h; inside = k; token_is = sym inv ∙ run_over s at e (run_bytes s at e) h k (run_long s at e h k) q }
 
-  run_stops : e < length s → in_run (get_or s e 0) ≡ false → Ran s at e
+  pub run_stops : e < length s → in_run (get_or s e 0) ≡ false → Ran s at e
   unfolding tokens ended tokens_at
   run_stops n f =
       let d : drop e s ≡ get_or s e 0 ∷ drop (suc e) s = drop-cons s e 0 n in

@@ -79,7 +79,7 @@ module _ (b : TypeTable) (s w : List ℕ) (t : Record) (bit : ℕ) where
       unfolding step_asked step_is
       tried_more g = i ∙ tried_one ∙ (decides _ _ er).0 (ap step_asked g)
 
-      tried_found : (step_asked r ≡ got stay → ⊥) → step_asked r ≡ T
+      pub tried_found : (step_asked r ≡ got stay → ⊥) → step_asked r ≡ T
       tried_found h = sym (i ∙ tried_one ∙ (decides _ _ er).1 h)
 
       pub tried_step : (x : CodeStep) → r ≡ Ok (Some x) → step_asked (Ok (Some x)) ≡ T

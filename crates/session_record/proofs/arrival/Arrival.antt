@@ -12,7 +12,7 @@ use Rattle.spec_session.specs.calls.Calls.{limit_of, arrived_at}
 use Rattle.spec_session.proofs.calls.Laws.{limit_short, limit_long, limit_none, limit_between}
 use Rattle.session_record.specs.arrival.Arrival.{clipped, arrived_in}
 
-clip_fits : (n : ℕ) → n < 4294967296 → clipped n ≡ n
+pub clip_fits : (n : ℕ) → n < 4294967296 → clipped n ≡ n
 unfolding clipped
 clip_fits n h = rw (le-leb n 4294967295 (omega arith), clipped)
 

@@ -314,7 +314,7 @@ module _ (o : Options) (s : Session) (section : List ℕ) (es : s.section_len �
           mid_long : length mid ≡ length l - c * 12
           mid_long = mid_len (c * 12) (length l) l (omega arith)
 
-          whole_long : length l' ≡ length l
+          pub whole_long : length l' ≡ length l
           whole_long = same_len_mid (c * 12) (length l - c * 12) l u same
 
           behind_long : length behind_them ≡ length mid

@@ -215,7 +215,7 @@ pub members::emit_composite_def-returns-in_err-packed : goal.members::emit_compo
 members::emit_composite_def-returns-in_err-packed t c = members.def_refused _ _ _ _ _ _ _ _ _ _ _ _ c.if-left-eq0.false (sym c.is_builtin.ensures ∙ c.if-is_builtin.false) _ _ c.in_err-packed.ensures _ _ refl c.from_residual.ensures.1
 
 pub members::emit_member-returns : goal.members::emit_member-returns
-members::emit_member-returns t c = (members.member_said _ _ _ _ _ _ _ _ _ _ _ _ _ _ _ _ _ _ _ _ _ _ _ _ _ _ c.load_member-m.ensures c.bare.ensures c.deeper-lvl.ensures c.in_ok-a.ensures c.in_ok-c.ensures c.in_ok-e.ensures c.in_ok-f.ensures c.emit_member_end.ensures.0, members.member_ends _ _ _ _ _ _ _ c.load_member-m.ensures c.emit_member_end.ensures.1)
+members::emit_member-returns t c = (members.member_said _ _ _ _ _ _ _ _ _ _ _ _ _ _ _ _ _ _ _ _ _ _ _ _ _ _ c.load_member-m.ensures c.bare.ensures c.deeper-lvl.ensures c.in_ok-a.ensures c.in_ok-c.ensures c.in_ok-e.ensures c.in_ok-f.ensures (members.placed_as _ _ _ _ _ c.in_ok-at.was c.emit_member_end-end.ensures.0), members.member_ends _ _ _ _ _ _ _ c.load_member-m.ensures c.emit_member_end-end.ensures.1)
 
 pub members::emit_member-returns-in_err-a : goal.members::emit_member-returns-in_err-a
 members::emit_member-returns-in_err-a t c = halted _ _ _ _ _ _ _ (members.member_said _ _ _ _ _ _ _ _ _ _ _ _ _ _ _ _ _ _ _ _ _ _ _ _ _ _ c.load_member-m.ensures c.bare.ensures c.deeper-lvl.ensures c.in_err-a.ensures (put_past _ _ (whole _)) (put_past _ _ (whole _)) (said_past _ _ _ _ _) (said_past _ _ _ _ _)) c.from_residual.ensures.1
@@ -228,6 +228,9 @@ members::emit_member-returns-in_err-e t c = halted _ _ _ _ _ _ _ (members.member
 
 pub members::emit_member-returns-in_err-f : goal.members::emit_member-returns-in_err-f
 members::emit_member-returns-in_err-f t c = halted _ _ _ _ _ _ _ (members.member_said _ _ _ _ _ _ _ _ _ _ _ _ _ _ _ _ _ _ _ _ _ _ _ _ _ _ c.load_member-m.ensures c.bare.ensures c.deeper-lvl.ensures c.in_ok-a.ensures c.in_ok-c.ensures c.in_ok-e.ensures c.in_err-f.ensures (said_past _ _ _ _ _)) c.from_residual-in_err-f.ensures.1
+
+pub members::emit_member-returns-in_err-at : goal.members::emit_member-returns-in_err-at
+members::emit_member-returns-in_err-at t c = halted _ _ _ _ _ _ _ (members.member_said _ _ _ _ _ _ _ _ _ _ _ _ _ _ _ _ _ _ _ _ _ _ _ _ _ _ c.load_member-m.ensures c.bare.ensures c.deeper-lvl.ensures c.in_ok-a.ensures c.in_ok-c.ensures c.in_ok-e.ensures c.in_ok-f.ensures (members.placed_as _ _ _ _ _ c.in_err-at.was c.emit_member_end-end.ensures.0)) c.from_residual-in_err-at.ensures.1
 
 pub members::emit_members-loop-k-init : goal.members::emit_members-loop-k-init
 members::emit_members-loop-k-init t c = leads_start _ _ _ _ _

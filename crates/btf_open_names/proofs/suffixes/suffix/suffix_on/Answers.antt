@@ -1,16 +1,24 @@
-use mathlib.Core.Path.{ap, ◌∙◌}
-use Rattle.std.proofs.Common.{Some, None, unwrap_or}
-use Rattle.std.proofs.lemmas.Bool.Decides.{Decides-eqb}
-use Rattle.std.proofs.lemmas.Slice.Eq.{strip_prefix_is}
-use Rattle.btf_open_names.proofs.filled_work.Bytes.{on_front, on_else}
+use Rattle.btf_open_names.proofs.filled_work.Bytes.{on_base_lem, on_differ, on_turn, on_end}
+use Rattle.btf_open_names.specs.filled_work.Takers.{suffix_in}
+use Rattle.btf_open_names.proofs.name_classes.Names.{name_of_part}
+use Rattle.spec_type_table.specs.Names.{name_at}
+use native.Mathlib.Omega.{arith}
+use mathlib.Core.Path.{refl, ap, ◌∙◌}
 use Rattle.btf_open_names.proofs.suffixes.suffix.suffix_on.Goals as goal
 
-pub returns-in_err-strip_prefix : goal.returns-in_err-strip_prefix
-returns-in_err-strip_prefix c =
-    ap (λ o. unwrap_or o 0) c.from_residual.ensures
-    ∙ on_else _ _ _ c.whole.ensures (strip_prefix_is Decides-eqb c.args.y.now c.whole.result.now None c.in_err-strip_prefix.ensures.cases)
+pub loop-k-init : goal.loop-k-init
+unfolding name_at
+loop-k-init c = refl
+
+pub returns-then-a-eq0 : goal.returns-then-a-eq0
+returns-then-a-eq0 c =
+    on_base_lem c.args.x.now c.args.y.now _ c.loop-k.k c.loop-k.invariant _ c.peek-a.ensures _ c.if-a-eq0.true (c.suffix_in.ensures ∙ ap suffix_in (name_of_part c.args.y.now c.loop-k.k))
+
+pub returns-then-a-b : goal.returns-then-a-b
+returns-then-a-b c = on_differ _ _ _ _ c.loop-k.invariant _ c.peek-a.ensures c.if-a-eq0.false c.if-a-b.true
+
+pub loop-k-preserved : goal.loop-k-preserved
+loop-k-preserved c = on_turn _ _ _ _ c.loop-k.invariant _ c.peek-a.ensures c.if-a-eq0.false c.if-a-b.false
 
 pub returns : goal.returns
-returns c =
-    c.suffix_in.ensures
-    ∙ on_front _ _ _ c.whole.ensures _ (strip_prefix_is Decides-eqb c.args.y.now c.whole.result.now (Some c.in_ok-strip_prefix.field-0) c.in_ok-strip_prefix.ensures.cases)
+returns c = on_end _ _ _ _ c.loop-k.invariant (omega arith)

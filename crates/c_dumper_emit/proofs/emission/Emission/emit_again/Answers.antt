@@ -3,6 +3,7 @@ use mathlib.Core.Bool.{not}
 use mathlib.Core.Path.{ap}
 use borrow.Author.Tests.{eq-eqb, ne_eqb}
 use Rattle.std.proofs.lemmas.Bool.{and_left, and_right}
+use Rattle.c_dumper_emit.proofs.entries.Laws as laws
 use Rattle.c_dumper_emit.proofs.entries.Walk as walk
 use Rattle.c_dumper_emit.proofs.emission.Emission.emit_again.Goals as goal
 
@@ -19,7 +20,7 @@ returns-else-id-cont c = λ n. walk.again_mention _ _ _ _ n _ _ _ _ _ _ _ c.get_
 ]) _ (c.emit_mention.ensures n)
 
 pub returns-in-Typedef : goal.returns-in-Typedef
-returns-in-Typedef c = λ n. walk.again_typedef _ _ _ _ n _ _ _ _ _ _ _ c.get_fwd_emitted.ensures c.if-get_fwd_emitted.false _ c.type_by_id-t.ensures _ c.of.ensures c.in-Typedef.is _ c.origin_at-e.ensures _ (c.emit_once.ensures n)
+returns-in-Typedef c = λ n. walk.again_typedef _ _ _ _ n _ _ _ _ _ _ _ c.get_fwd_emitted.ensures c.if-get_fwd_emitted.false _ c.type_by_id-t.ensures _ c.of.ensures c.in-Typedef.is _ (laws.cause_by _ _ _ _ _ _ c.from.ensures c.origin_at-e.ensures) _ (c.emit_once.ensures n)
 
 pub returns-in_default : goal.returns-in_default
 returns-in_default c = λ n. walk.again_other _ _ _ _ n _ _ _ _ _ _ _ c.get_fwd_emitted.ensures c.if-get_fwd_emitted.false _ c.type_by_id-t.ensures _ c.of.ensures c.in_default.not-Struct c.in_default.not-Union c.in_default.not-Typedef

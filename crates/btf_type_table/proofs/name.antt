@@ -1,0 +1,2 @@
+-- Laws of names that are written.
+pub mod Within
