@@ -30,7 +30,7 @@ use Rattle.spec_type_table.specs.declared.types.BtfType.{BtfType as Record}
 use Rattle.spec_type_table.specs.Names.{str_at}
 use Rattle.spec_type_table.specs.Records.{section_word, param_at, member_of}
 use Rattle.spec_type_table.specs.Table.{from, param_of, rule_member, btf_of}
-use Rattle.std.specs.Prelude.{None, Result, Ok, Err, IsErrAnd, ⊤}
+use Rattle.std.specs.Prelude.{None, Result, Ok, Err, IsErrAnd, IfOk, ⊤}
 use Rattle.spec_bytes.proofs.text.TextLaws.{put_past, put_ended, put_cut}
 use Rattle.spec_bytes.specs.declared.refusal.Refusal.{Refusal}
 use Rattle.spec_bytes.specs.declared.refusal.Refusal.TheVariants.{TooDeep}
@@ -174,9 +174,14 @@ module _ (b : TypeTable) (s : List ℕ) where
         (said_as t₁ p _ _ w r t' w' (ap (λ (l : List Param). emit_params (λ id name. emit_type_decl_once (Q b s (T b s w)) (N b s) (T b s w) below id name lvl) true l ⨾ put (ascii ")")) (ap (from f 0) z ∙ e)) o₂)
 
   -- ---- emit_member: where the next member starts
-  pub member_ends : (B : Rules) (t : Record) (k : ℕ) (m : BtfMember) (o : ℕ) → m ≡ member_of b s t k
+  pub offset_ends : (B : Rules) (t : Record) (k : ℕ) (m : BtfMember) (o : ℕ) → m ≡ member_of b s t k
       → o ≡ end_from (end_of B (rule_member b s m)) → o ≡ end_from (end_of B (rule_member b s (member_of b s t k)))
-  member_ends B t k m o em e = e ∙ ap (λ (y : BtfMember). end_from (end_of B (rule_member b s y))) em
+  offset_ends B t k m o em e = e ∙ ap (λ (y : BtfMember). end_from (end_of B (rule_member b s y))) em
+
+  pub member_ends : (B : Rules) (t : Record) (k : ℕ) (m : BtfMember) (r : Result Spot Refusal) → m ≡ member_of b s t k
+      → IfOk r (λ x. x.offset ≡ end_from (end_of B (rule_member b s m))) → IfOk r (λ x. x.offset ≡ end_from (end_of B (rule_member b s (member_of b s t k))))
+  member_ends B t k m (Ok x) em o = offset_ends B t k m x.offset em o
+  member_ends B t k m (Err c) em o = o
 
   -- what it writes
   module _ (below id lvl : ℕ) (packed : Bool) (k : ℕ) (txt : List ℕ) (spot : Spot) (w : List ℕ) where

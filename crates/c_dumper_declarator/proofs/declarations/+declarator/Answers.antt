@@ -8,6 +8,7 @@ use Rattle.c_dumper_declarator.proofs.declarations.MemberLaws as members
 use Rattle.spec_bytes.specs.text.Text.{whole}
 use Rattle.spec_bytes.proofs.text.TextLaws.{put_past, put_ended}
 use native.Mathlib.Omega.{arith}
+use Rattle.std.specs.Prelude.{Ok}
 use Rattle.c_dumper_declarator.proofs.declarations.+declarator.Goals as goal
 
 pub emit_array-returns-then-c-eq0 : goal.emit_array-returns-then-c-eq0
@@ -215,7 +216,7 @@ pub members::emit_composite_def-returns-in_err-packed : goal.members::emit_compo
 members::emit_composite_def-returns-in_err-packed t c = members.def_refused _ _ _ _ _ _ _ _ _ _ _ _ c.if-left-eq0.false (sym c.is_builtin.ensures ∙ c.if-is_builtin.false) _ _ c.in_err-packed.ensures _ _ refl c.from_residual.ensures.1
 
 pub members::emit_member-returns : goal.members::emit_member-returns
-members::emit_member-returns t c = (members.member_said _ _ _ _ _ _ _ _ _ _ _ _ _ _ _ _ _ _ _ _ _ _ _ _ _ _ c.load_member-m.ensures c.bare.ensures c.deeper-lvl.ensures c.in_ok-a.ensures c.in_ok-c.ensures c.in_ok-e.ensures c.in_ok-f.ensures (members.placed_as _ _ _ _ _ c.in_ok-at.was c.emit_member_end-end.ensures.0), members.member_ends _ _ _ _ _ _ _ c.load_member-m.ensures c.emit_member_end-end.ensures.1)
+members::emit_member-returns t c = (members.member_said _ _ _ _ _ _ _ _ _ _ _ _ _ _ _ _ _ _ _ _ _ _ _ _ _ _ c.load_member-m.ensures c.bare.ensures c.deeper-lvl.ensures c.in_ok-a.ensures c.in_ok-c.ensures c.in_ok-e.ensures c.in_ok-f.ensures (members.placed_as _ _ _ _ _ c.in_ok-at.was c.emit_member_end-end.ensures.0), members.member_ends _ _ _ _ _ _ (Ok (record { at = c.in_ok-at.at; offset = c.emit_member_end-end.result.offset })) c.load_member-m.ensures c.emit_member_end-end.ensures.1)
 
 pub members::emit_member-returns-in_err-a : goal.members::emit_member-returns-in_err-a
 members::emit_member-returns-in_err-a t c = halted _ _ _ _ _ _ _ (members.member_said _ _ _ _ _ _ _ _ _ _ _ _ _ _ _ _ _ _ _ _ _ _ _ _ _ _ c.load_member-m.ensures c.bare.ensures c.deeper-lvl.ensures c.in_err-a.ensures (put_past _ _ (whole _)) (put_past _ _ (whole _)) (said_past _ _ _ _ _) (said_past _ _ _ _ _)) c.from_residual.ensures.1
